@@ -1,0 +1,6 @@
+// The instructions, their words, and the layout of a module.
+pub mod instruction;
+pub mod kinds;
+pub mod layout;
+pub mod limits;
+pub mod words;
