@@ -2,7 +2,7 @@
 use mathlib.Core.Bool.{Bool, true, false, cond, _&&_, _||_}
 use mathlib.Core.List.{List}
 use mathlib.Core.Path.{_≡_}
-use Prim.Native.Nat.{ℕ, _+_, _-_, _*_, _/_, _%_, _^_, _<_, _≤_}
+use Prim.Native.Nat.{ℕ, zero, suc, _+_, _-_, _*_, _/_, _%_, _^_, _<_, _≤_}
 use lib.Dec.{eqb, ltb, leb}
 use lib.ListN.{length, getD}
 use Rattle.isa.specs.declared.kinds.Colour.{Colour}
@@ -18,10 +18,10 @@ word ws i = getD ws i 0
 
 -- the instruction with number p
 abbrev pub kindAt : List ℕ → ℕ → Kind
-kindAt ws p = kindOf (word ws (2 + 2 * p)) (word ws (3 + 2 * p))
+kindAt ws p = kindOf (word ws (2 + 2 * p)) (word ws (2 + 2 * p + 1))
 
 abbrev pub wellFormedAt : List ℕ → ℕ → Bool
-wellFormedAt ws p = wellFormed (word ws (2 + 2 * p)) (word ws (3 + 2 * p))
+wellFormedAt ws p = wellFormed (word ws (2 + 2 * p)) (word ws (2 + 2 * p + 1))
 
 -- the start of block b, n being the count of instructions
 abbrev pub startAt : List ℕ → ℕ → ℕ → ℕ
@@ -49,3 +49,38 @@ slotted x = leb x 32 || (leb 129 x && leb x 160)
 abbrev pub measured : List ℕ → Bool
 measured ws =
     (ltb 0 (word ws 0) && leb (word ws 0) 1024) && ((ltb 0 (word ws 1) && leb (word ws 1) 64) && eqb (length ws) (2 + 2 * word ws 0 + 9 * word ws 1))
+
+-- f holds of every number below n
+unfoldable pub every : ℕ → (ℕ → Bool) → Bool
+every zero f = true
+every (suc n) f = every n f && f n
+
+-- the start of block b is 0 for the first one, above the one before for the others, and below n
+abbrev pub startFits : List ℕ → ℕ → ℕ → Bool
+startFits ws n b = cond (eqb b 0) (eqb (startAt ws n b) 0) (ltb (startAt ws n (b - 1)) (startAt ws n b)) && ltb (startAt ws n b) n
+
+-- the entry of block b's card for register r: block 0's card is all free
+abbrev pub slotFits : List ℕ → ℕ → ℕ → ℕ → Bool
+slotFits ws n b r = cond (eqb b 0) (eqb (cardByte ws n b r) 0) (slotted (cardByte ws n b r))
+
+abbrev pub cardFits : List ℕ → ℕ → ℕ → Bool
+cardFits ws n b = every 32 (slotFits ws n b)
+
+abbrev pub blockFits : List ℕ → ℕ → ℕ → Bool
+blockFits ws n b = startFits ws n b && cardFits ws n b
+
+-- counts, length, operations and fields are right
+abbrev pub codeFits : List ℕ → Bool
+codeFits ws = measured ws && every (word ws 0) (wellFormedAt ws)
+
+-- the words are laid out as a module
+pub record LaidOut (ws : List ℕ) : Type 0 where
+  pub code : codeFits ws ≡ true
+  pub blocks : every (word ws 1) (blockFits ws (word ws 0)) ≡ true
+
+-- block b is the first one with a bad start or a bad card
+pub record BadBlock (ws : List ℕ) (b : ℕ) : Type 0 where
+  pub code : codeFits ws ≡ true
+  pub there : b < word ws 1
+  pub before : every b (blockFits ws (word ws 0)) ≡ true
+  pub bad : blockFits ws (word ws 0) b ≡ false
