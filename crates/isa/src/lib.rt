@@ -1,4 +1,5 @@
 // The instructions, their words, and the layout of a module.
+pub mod card;
 pub mod instruction;
 pub mod kinds;
 pub mod layout;
