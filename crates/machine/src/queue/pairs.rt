@@ -3,14 +3,28 @@ ghost use mathlib.Core.Path.{_≡_};
 ghost use mathlib.Core.List.{List, [], _∷_, _++_};
 ghost use mathlib.Core.Bool.{true, cond};
 ghost use Prim.Native.Nat.{ℕ};
-ghost use lib.Dec.{ltb};
+ghost use lib.Dec.{eqb, ltb};
 ghost use lib.ListN.{length, set};
 ghost use Rattle.std.specs.Options.{Cases, valueOr};
 ghost use Rattle.std.specs.shelf.Maps.{nth};
+ghost use Rattle.std.specs.declared.option.Option.the-variants.{Some};
 ghost use Rattle.machine.specs.Pairs.{newest, first, rest, some?, overlay};
 ghost use Rattle.machine.specs.Queued.{queued};
 use super::Pair;
 use super::Queue;
+
+impl Pair {
+    // Its word where it has the address, and else what older pairs had there.
+    fn over(self, older: Option<u32>, address: u32) -> Option<u32>
+        ensures { λ r. ⌜ r ≡ cond (eqb address (self .address)) (Some (self .word)) older ⌝ }
+    {
+        if self.address == address {
+            Some(self.word)
+        } else {
+            older
+        }
+    }
+}
 
 impl Queue {
     pub fn new() -> Queue
@@ -73,9 +87,7 @@ impl Queue {
         let mut found = None;
         for i in 0..self.len {
             let pair = self.slots[i];
-            if pair.address == address {
-                found = Some(pair.word);
-            }
+            found = pair.over(found, address);
         }
         found
     }
