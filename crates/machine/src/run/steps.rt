@@ -145,6 +145,13 @@ impl Run {
         self.end = self.act(code, memory);
     }
 
+    // How many of n more steps it may take.
+    fn allowed(&self, n: u32) -> u32
+        ensures { λ r. ⌜ r ≡ min n (1000000000 - now (self .entry) .steps) ⌝ }
+    {
+        n.min(MOST_STEPS - self.steps)
+    }
+
     // Steps until n are done or an end comes, and answers how many it took. A run takes
     // 1,000,000,000 steps at most: of those that would pass that number none is taken.
     pub fn advance<M: Memory>(&mut self, code: &Code, memory: &mut M, n: u32) -> u32
@@ -152,7 +159,7 @@ impl Run {
         ensures same { λ _. ⌜ cells (now (memory .exit)) .writable ≡ cells (now (memory .entry)) .writable ⌝ }
         ensures taken { λ r. ⌜ now (self .entry) .steps + r ≡ now (self .exit) .steps ⌝ }
     {
-        let most = n.min(MOST_STEPS - self.steps);
+        let most = self.allowed(n);
         let mut taken = 0;
         while taken < most && self.end.is_going() {
             self.step(code, memory);

@@ -31,8 +31,8 @@ returns-else-is-going g c =
     let to = runOf (c .loop-taken .self) (m .cells (c .loop-taken .memory)) in
     let inv = c .loop-taken .inv in
     let k = c .loop-taken .taken in
-    let rest = c .min-most .result - k in
-    let all : k + rest ≡ min (c .args .n) (1000000000 - c .args .self .now .steps) = omega (arith, c .min-most .ensures) in
+    let rest = c .allowed-most .result - k in
+    let all : k + rest ≡ min (c .args .n) (1000000000 - c .args .self .now .steps) = omega (arith, c .allowed-most .ensures) in
     record {
       does = sym (stays w code to (sym (c .if-is-going .ensures tt)) rest) ∙ ap (λ x. after w code x rest) (inv .4)
           ∙ further w code from k rest ∙ ap (after w code from) all;
