@@ -13,16 +13,17 @@ use Rattle.std.specs.Iters.{counting}
 use Rattle.std.proofs.shelf.Counted.{length-map-counting, getD-map-counting}
 use Rattle.std.proofs.shelf.Tests.{cases-lt, cases-eq, cases-order, cond-true, cond-false, lt-ltb, le-ltb}
 use Rattle.isa.specs.Words.{kindOf}
-use Rattle.isa.specs.Layout.{word, kindAt, startAt, codeFits, blockFits, every}
+use Rattle.isa.specs.Layout.{word, kindAt, startAt, cardByte, slotByte, slotted, codeFits, blockFits, every}
 use Rattle.rules.specs.Limits.{Limits}
 use Rattle.rules.specs.Notes.{Kind, halt}
-use Rattle.rules.specs.Cards.{Block, Card, entry, inside, start}
+use Rattle.rules.specs.Cards.{Block, Card, free, entry, inside, start}
 use Rattle.rules.specs.Module.{Module, size, instr, keptAt, Keeps, BreaksAt}
 use Rattle.rules.specs.Block.{behind, kept?, BlockPasses, BlockBreaks}
 use Rattle.rules.specs.Part.{Behind, Part}
 use Rattle.rules.specs.Words.{kindIn, kindsOf, cardOf, blockOf, moduleOf}
 use Rattle.rules.proofs.Starts.{entry-found, entry-inside}
-use Rattle.rules.proofs.Layouts.{start-below, start-first, start-order}
+use Rattle.rules.proofs.Layouts.{start-below, start-first, start-order, slots}
+use Rattle.rules.proofs.Slots.{block-back}
 use Rattle.rules.proofs.Modules.{part-kept}
 
 -- where block b starts, and for b behind the last block the count of instructions
@@ -212,3 +213,12 @@ module _ (ws : List ℕ) (good : every (word ws 1) (blockFits ws (word ws 0)) �
             let i : q ≡ startAt ws (word ws 0) b + (q - startAt ws (word ws 0) b) = omega arith in
             let j : q - startAt ws (word ws 0) b < k = omega arith in
             ap (keptAt L (moduleOf ws)) i ∙ here (q - startAt ws (word ws 0) b) (omega arith) ∙ x .1 (q - startAt ws (word ws 0) b) j
+
+-- block b as it was read from words that are laid out well, with n instructions
+pub read-block : (ws : List ℕ) (good : every (word ws 1) (blockFits ws (word ws 0)) ≡ true) (n b : ℕ) (B : Block) → n ≡ word ws 0 → b < word ws 1 → B .start ≡ startAt ws n b
+    → ((k : ℕ) → k < 32 → slotted (cardByte ws n b k) ≡ true → slotByte (getD (B .card) k free) ≡ cardByte ws n b k) → B ≡ blockOf ws (word ws 0) b
+read-block ws good n b B e h =
+    let P : ℕ → Type 0 =
+    λ m. B .start ≡ startAt ws m b → ((k : ℕ) → k < 32 → slotted (cardByte ws m b k) ≡ true → slotByte (getD (B .card) k free) ≡ cardByte ws m b k)
+        → B ≡ blockOf ws (word ws 0) b in
+    subst P (sym e) (λ s c. block-back ws (word ws 0) b B s (λ k l. c k l (slots ws good b k h l)))
