@@ -9,6 +9,7 @@ use lib.Dec.{eqb, ltb, leb}
 use lib.ListN.{length, getD}
 use Rattle.std.specs.declared.option.Option.{Option}
 use Rattle.std.specs.declared.option.Option.the-variants.{Some, None}
+use Rattle.std.specs.declared.result.Result.{Result}
 use Rattle.std.specs.Iters.{counting}
 use Rattle.std.proofs.shelf.Counted.{length-map-counting, getD-map-counting}
 use Rattle.std.proofs.shelf.Tests.{cases-lt, cases-eq, cases-order, cond-true, cond-false, lt-ltb, le-ltb}
@@ -18,7 +19,7 @@ use Rattle.rules.specs.Limits.{Limits}
 use Rattle.rules.specs.Notes.{Kind, halt}
 use Rattle.rules.specs.Cards.{Block, Card, free, entry, inside, start}
 use Rattle.rules.specs.Module.{Module, size, instr, keptAt, Keeps, BreaksAt}
-use Rattle.rules.specs.Block.{behind, kept?, BlockPasses, BlockBreaks}
+use Rattle.rules.specs.Block.{behind, orFree, cardAt, kept?, BlockPasses, BlockBreaks, BlockJudged}
 use Rattle.rules.specs.Part.{Behind, Part}
 use Rattle.rules.specs.Words.{kindIn, kindsOf, cardOf, blockOf, moduleOf}
 use Rattle.rules.proofs.Starts.{entry-found, entry-inside}
@@ -220,5 +221,17 @@ pub read-block : (ws : List ℕ) (good : every (word ws 1) (blockFits ws (word w
 read-block ws good n b B e h =
     let P : ℕ → Type 0 =
     λ m. B .start ≡ startAt ws m b → ((k : ℕ) → k < 32 → slotted (cardByte ws m b k) ≡ true → slotByte (getD (B .card) k free) ≡ cardByte ws m b k)
-        → B ≡ blockOf ws (word ws 0) b in
+    → B ≡ blockOf ws (word ws 0) b in
     subst P (sym e) (λ s c. block-back ws (word ws 0) b B s (λ k l. c k l (slots ws good b k h l)))
+
+-- a block's card as it was read
+card-read : (bs : List Block) (b : ℕ) (x : Block) → b < length bs → x ≡ getD bs b x → x .card ≡ cardAt bs b
+card-read bs b x h e = sym (ap orFree (behind-at bs b x h) ∙ ap (λ (y : Block). y .card) (sym e))
+
+-- what was answered of a block as it was read, among the blocks as they were read
+pub judged-read : (L : Limits) (bs cs : List Block) (next b : ℕ) (x : Block) (C : List Kind) (r : Result (Unit {0}) ℕ) → cs ≡ bs → b < length bs → x ≡ getD bs b x
+    → BlockJudged L cs (behind cs next) (x .card) C r → BlockJudged L bs (behind bs next) (cardAt bs b) C r
+judged-read L bs cs next b x C r p h e j =
+    let P : List Block → Type 0 = λ l. BlockJudged L l (behind l next) (x .card) C r in
+    let Q : Card → Type 0 = λ K. BlockJudged L bs (behind bs next) K C r in
+    subst Q (card-read bs b x h e) (subst P p j)
