@@ -1,4 +1,5 @@
 // The check that decides the rules, over shared expressions.
+pub mod check;
 pub mod fault;
 mod node;
 mod note;

@@ -9,25 +9,25 @@ use lib.Dec.{eqb, ltb, leb}
 use lib.ListN.{length, getD}
 use Rattle.std.specs.declared.option.Option.{Option}
 use Rattle.std.specs.declared.option.Option.the-variants.{Some, None}
+use Rattle.std.specs.declared.result.Result.{Result}
 use Rattle.std.specs.Iters.{counting}
 use Rattle.std.proofs.shelf.Counted.{length-map-counting, getD-map-counting}
+use Rattle.std.specs.Holes.{between}
+use Rattle.std.proofs.shelf.Edits.{length-between, getD-between}
 use Rattle.std.proofs.shelf.Tests.{cases-lt, cases-eq, cases-order, cond-true, cond-false, lt-ltb, le-ltb}
 use Rattle.isa.specs.Words.{kindOf}
-use Rattle.isa.specs.Layout.{word, kindAt, startAt, codeFits, blockFits, every}
+use Rattle.isa.specs.Layout.{word, kindAt, startAt, cardByte, slotByte, slotted, codeFits, blockFits, every, LaidOut}
 use Rattle.rules.specs.Limits.{Limits}
 use Rattle.rules.specs.Notes.{Kind, halt}
-use Rattle.rules.specs.Cards.{Block, Card, entry, inside, start}
+use Rattle.rules.specs.Cards.{Block, Card, free, entry, inside, start}
 use Rattle.rules.specs.Module.{Module, size, instr, keptAt, Keeps, BreaksAt}
-use Rattle.rules.specs.Block.{behind, kept?, BlockPasses, BlockBreaks}
+use Rattle.rules.specs.Block.{behind, orFree, cardAt, kept?, BlockPasses, BlockBreaks, BlockJudged}
 use Rattle.rules.specs.Part.{Behind, Part}
-use Rattle.rules.specs.Words.{kindIn, kindsOf, cardOf, blockOf, moduleOf}
+use Rattle.rules.specs.Words.{edge, kindIn, kindsOf, cardOf, blockOf, moduleOf}
 use Rattle.rules.proofs.Starts.{entry-found, entry-inside}
-use Rattle.rules.proofs.Layouts.{start-below, start-first, start-order}
+use Rattle.rules.proofs.Layouts.{long, few, start-below, start-first, start-order, slots}
+use Rattle.rules.proofs.Slots.{block-back}
 use Rattle.rules.proofs.Modules.{part-kept}
-
--- where block b starts, and for b behind the last block the count of instructions
-abbrev pub edge : List ℕ → ℕ → ℕ
-edge ws b = cond (ltb b (word ws 1)) (startAt ws (word ws 0) b) (word ws 0)
 
 pub edge-start : (ws : List ℕ) (b : ℕ) → b < word ws 1 → edge ws b ≡ startAt ws (word ws 0) b
 edge-start ws b h = cond-true _ _ _ (lt-ltb b (word ws 1) h)
@@ -212,3 +212,79 @@ module _ (ws : List ℕ) (good : every (word ws 1) (blockFits ws (word ws 0)) �
             let i : q ≡ startAt ws (word ws 0) b + (q - startAt ws (word ws 0) b) = omega arith in
             let j : q - startAt ws (word ws 0) b < k = omega arith in
             ap (keptAt L (moduleOf ws)) i ∙ here (q - startAt ws (word ws 0) b) (omega arith) ∙ x .1 (q - startAt ws (word ws 0) b) j
+
+-- the words of a block, cut out of the middle
+pub cut-is : (ws : List ℕ) (b from to : ℕ) (part : List ℕ) → b < word ws 1 → from ≡ edge ws b → to ≡ edge ws (b + 1) → from ≤ to → 2 + 2 * to ≤ length ws
+    → part ≡ between (2 + 2 * from) (2 + 2 * to) ws → Cut ws b part
+cut-is ws b from to part h f t o w e =
+    let s = edge-start ws b h in
+    let l = ap length e ∙ length-between ws (2 + 2 * from) (2 + 2 * to) w in
+    record {
+      there = h;
+      long = omega arith;
+      words = λ j g.
+          let i : 2 + 2 * from + j ≡ 2 + 2 * startAt ws (word ws 0) b + j = omega arith in
+          ap (λ x. word x j) e ∙ getD-between ws (2 + 2 * from) (2 + 2 * to) j 0 (omega arith) ∙ ap (word ws) i;
+    }
+
+-- where the words of a block lie
+pub record Lies (ws : List ℕ) (b from to : ℕ) : Type 0 where
+  pub order : from < to
+  pub below : to ≤ word ws 0
+  pub within : 2 + 2 * to ≤ length ws
+  pub few : word ws 0 ≤ 1024
+  pub start : from ≡ startAt ws (word ws 0) b
+
+pub lies : (ws : List ℕ) (laid : LaidOut ws) (b from to : ℕ) → b < word ws 1 → from ≡ edge ws b → to ≡ edge ws (b + 1) → Lies ws b from to
+lies ws laid b from to h f t =
+    let s = edge-start ws b h in
+    let r = edge-rises ws (laid .blocks) b h in
+    let l = long ws (laid .code) in
+    let w = few ws (laid .code) in
+    record { order = omega arith; below = omega arith; within = omega arith; few = omega arith; start = omega arith }
+
+-- block b as it was read from words that are laid out well, with n instructions
+pub read-block : (ws : List ℕ) (good : every (word ws 1) (blockFits ws (word ws 0)) ≡ true) (n b : ℕ) (B : Block) → n ≡ word ws 0 → b < word ws 1 → B .start ≡ startAt ws n b
+    → ((k : ℕ) → k < 32 → slotted (cardByte ws n b k) ≡ true → slotByte (getD (B .card) k free) ≡ cardByte ws n b k) → B ≡ blockOf ws (word ws 0) b
+read-block ws good n b B e h =
+    let P : ℕ → Type 0 =
+    λ m. B .start ≡ startAt ws m b → ((k : ℕ) → k < 32 → slotted (cardByte ws m b k) ≡ true → slotByte (getD (B .card) k free) ≡ cardByte ws m b k)
+    → B ≡ blockOf ws (word ws 0) b in
+    subst P (sym e) (λ s c. block-back ws (word ws 0) b B s (λ k l. c k l (slots ws good b k h l)))
+
+-- a block's card as it was read
+card-read : (bs : List Block) (b : ℕ) (x : Block) → b < length bs → x ≡ getD bs b x → x .card ≡ cardAt bs b
+card-read bs b x h e = sym (ap orFree (behind-at bs b x h) ∙ ap (λ (y : Block). y .card) (sym e))
+
+-- what was answered of a block as it was read, among the blocks as they were read
+pub judged-read : (L : Limits) (bs cs : List Block) (next b : ℕ) (x : Block) (C : List Kind) (r : Result (Unit {0}) ℕ) → cs ≡ bs → b < length bs → x ≡ getD bs b x
+    → BlockJudged L cs (behind cs next) (x .card) C r → BlockJudged L bs (behind bs next) (cardAt bs b) C r
+judged-read L bs cs next b x C r p h e j =
+    let P : List Block → Type 0 = λ l. BlockJudged L l (behind l next) (x .card) C r in
+    let Q : Card → Type 0 = λ K. BlockJudged L bs (behind bs next) K C r in
+    subst Q (card-read bs b x h e) (subst P p j)
+
+-- what was answered of block b, the blocks being those of the module
+pub judged-in : (L : Limits) (ws : List ℕ) (good : every (word ws 1) (blockFits ws (word ws 0)) ≡ true) (b : ℕ) (bs : List Block) (C : List Kind) (r : Result (Unit {0}) ℕ)
+    → b < word ws 1 → bs ≡ moduleOf ws .blocks → BlockJudged L bs (behind bs (b + 1)) (cardAt bs b) C r
+    → BlockJudged L (moduleOf ws .blocks) (behind (moduleOf ws .blocks) (b + 1)) (cardOf ws (word ws 0) b) C r
+judged-in L ws good b bs C r h e j =
+    let P : List Block → Type 0 = λ l. BlockJudged L l (behind l (b + 1)) (cardAt l b) C r in
+    let Q : Card → Type 0 = λ K. BlockJudged L (moduleOf ws .blocks) (behind (moduleOf ws .blocks) (b + 1)) K C r in
+    let m = many ws good in
+    let k = ap orFree (behind-at (moduleOf ws .blocks) b (blockOf ws 0 0) (omega arith)) ∙ ap (λ (x : Block). x .card) (block ws good b h) in
+    subst Q k (subst P e j)
+
+-- where the first block starts, and where the last one ends
+pub edge-first : (ws : List ℕ) (laid : LaidOut ws) → edge ws 0 ≡ 0
+edge-first ws laid =
+    let w = few ws (laid .code) in
+    let h : 0 < word ws 1 = omega arith in
+    edge-start ws 0 h ∙ start-first ws (laid .blocks) h
+
+-- the rules are kept before the module's end
+pub all-kept : (L : Limits) (ws : List ℕ) (b : ℕ) → word ws 1 ≤ b → ((q : ℕ) → q < edge ws b → keptAt L (moduleOf ws) q ≡ true) → Keeps L (moduleOf ws)
+all-kept L ws b h k p l =
+    let e = edge-end ws b h in
+    let z = length-map-counting (kindAt ws) 0 (word ws 0) in
+    k p (omega arith)

@@ -4,7 +4,7 @@ use mathlib.Core.Bool.{true, cond, _&&_}
 use mathlib.Core.List.{List, map}
 use Prim.Native.Nat.{ℕ, _+_, _-_, _*_, _/_, _%_}
 use native.Mathlib.Nat.{mod-lt}
-use lib.Dec.{eqb, leb, lit<}
+use lib.Dec.{eqb, ltb, leb, lit<}
 use lib.ListN.{length}
 use Rattle.std.specs.Iters.{counting}
 use Rattle.std.proofs.shelf.Counted.{length-map-counting}
@@ -39,6 +39,10 @@ cardOf ws n b = map (λ r. slotOf (cardByte ws n b r)) (counting 0 32)
 
 abbrev pub blockOf : List ℕ → ℕ → ℕ → Block
 blockOf ws n b = record { start = startAt ws n b; card = cardOf ws n b; full = length-map-counting (λ r. slotOf (cardByte ws n b r)) 0 32 }
+
+-- where block b starts, and for b behind the last block the count of instructions
+abbrev pub edge : List ℕ → ℕ → ℕ
+edge ws b = cond (ltb b (word ws 1)) (startAt ws (word ws 0) b) (word ws 0)
 
 -- the module that words are
 abbrev pub moduleOf : List ℕ → Module

@@ -3,12 +3,11 @@ ghost use mathlib.Core.Path.{_≡_};
 ghost use mathlib.Core.Bool.{true, false};
 ghost use Prim.Native.Nat.{_+_, _*_, _<_, _≤_};
 ghost use lib.ListN.{length};
-ghost use Rattle.std.specs.Results.{Cases};
 ghost use Rattle.rules.specs.Limits.{in-force};
 ghost use Rattle.rules.specs.Notes.{next as nextOf};
 ghost use Rattle.rules.specs.Cards.{fresh};
 ghost use Rattle.rules.specs.Rules.{leaves?};
-ghost use Rattle.rules.specs.Block.{behind, ends?, keeps?, BlockPasses, BlockBreaks};
+ghost use Rattle.rules.specs.Block.{behind, ends?, keeps?, BlockJudged};
 ghost use Rattle.rules.specs.Words.{kindsOf};
 ghost use Rattle.checker.specs.Trees.{room};
 ghost use Rattle.checker.specs.View.{view, count, noteCard, Grown};
@@ -94,7 +93,7 @@ impl State {
         part: &[u32],
     ) -> Result<(), usize>
         requires { ⌜ length (now part) ≤ 2 * in-force .instructions ⌝ }
-        ensures { λ r. ⌜ Cases r (λ _. BlockPasses in-force (now (blocks .entry)) (behind (now (blocks .entry)) next) (now (card .entry)) (kindsOf (now (part .entry)))) (λ k. BlockBreaks in-force (now (blocks .entry)) (behind (now (blocks .entry)) next) (now (card .entry)) (kindsOf (now (part .entry))) k) ⌝ }
+        ensures { λ r. ⌜ BlockJudged in-force (now (blocks .entry)) (behind (now (blocks .entry)) next) (now (card .entry)) (kindsOf (now (part .entry))) r ⌝ }
     {
         self.begin(card);
         let count = part.len() / 2;
