@@ -1,22 +1,21 @@
 -- Two runs of one module, the second one struck in one colour only: a step keeps what the other colour holds, or the second
 -- run reports. Of the struck colour nothing is assumed, not even the queue's length.
 use mathlib.Core.Path.{_≡_, refl, sym, ap, ap₂, subst, subst⁻¹, _∙_}
-use mathlib.Core.Bool.{Bool, true, false, not, cond, _&&_}
-use mathlib.Core.List.{List, [], _∷_, _++_}
-use Prim.Native.Nat.{ℕ, zero, suc, _<_}
+use mathlib.Core.Bool.{Bool, true, false, not, cond}
+use mathlib.Core.List.{[], _∷_, _++_}
+use Prim.Native.Nat.{ℕ, suc, _<_}
 use lib.Dec.{eqb, ltb}
-use lib.ListN.{length, getD}
+use lib.ListN.{length}
 use Rattle.std.proofs.shelf.Tests.{true≢false, false≢true, both-ways, not-true, and-parts, eqb-true, ltb-true}
 use Rattle.memory.specs.Cells.{replaced}
 use Rattle.isa.specs.Words.{alu}
-use Rattle.machine.specs.declared.queue.Pair.{Pair}
 use Rattle.machine.specs.declared.ends.Report.the-variants.{CountersDiffer, StoreDiffers, Destination, Queue, Outside}
 use Rattle.machine.specs.declared.ends.End.the-variants.{NoSuchCell, Halted}
 use Rattle.machine.specs.Pairs.{first, rest, some?, overlay}
-use Rattle.machine.specs.Machine.{State, Outcome, stop, go, need, reg, withPlace, withQueue, withStore, at, fall, put, zero?, pair?, enqueue, commit, aim, land, exec, act}
+use Rattle.machine.specs.Machine.{State, Outcome, stop, go, need, reg, withQueue, withStore, at, fall, put, zero?, pair?, enqueue, commit, aim, land, exec, act}
 use Rattle.machine.specs.Machine as machine
 use Rattle.rules.specs.Limits.{Limits}
-use Rattle.rules.specs.Expressions.{Arithmetic, Expr, load}
+use Rattle.rules.specs.Expressions.{load}
 use Rattle.rules.specs.Notes.{Colour, green, blue, Register, Kind, mov, cpy, arith, ld, st, jmp, bz, halt, upd, Note, nothing, note, Notes, Static, noteOf, exprOf, combine, next}
 use Rattle.rules.specs.Module.{Module, size, instr, static}
 use Rattle.soundness.proofs.Rules.{Coloured, Rule}

@@ -3,7 +3,6 @@ use mathlib.Core.Path.{_≡_, refl}
 use mathlib.Core.Bool.{Bool, true, false, cond}
 use Rattle.std.proofs.shelf.Tests.{true≢false, false≢true}
 use Rattle.machine.specs.declared.ends.Report.{Report}
-use Rattle.machine.specs.declared.ends.End.{End}
 use Rattle.machine.specs.declared.ends.End.the-variants.{Going, Halted, NoSuchCell, Reported}
 use Rattle.machine.specs.Machine.{State, Outcome, stop, go, need}
 

@@ -1,7 +1,7 @@
 -- The rules of the check, as relations: what the proofs use of them.
-use mathlib.Core.Path.{_≡_, refl, sym, ap, subst, subst⁻¹, _∙_}
+use mathlib.Core.Path.{_≡_, refl, sym, ap, subst, subst⁻¹}
 use mathlib.Core.Logic.{_≢_}
-use mathlib.Core.Bool.{Bool, true, false, not, cond, _&&_, _||_}
+use mathlib.Core.Bool.{Bool, true, false, not, _||_}
 use mathlib.Core.List.{List, [], _∷_}
 use Prim.Native.Nat.{ℕ, zero, suc, _+_, _<_}
 use native.Mathlib.Nat.{add-zero, zero-add}
@@ -12,11 +12,10 @@ use lib.ListN.{length, getD}
 use Rattle.std.proofs.shelf.Tests.{true≢false, false≢true, and-parts, eqb-true, eq-eqb, ltb-true, not-true, both-ways}
 use Rattle.rules.specs.Limits.{Limits}
 use Rattle.rules.specs.Expressions.{Expr, same?, Numeral, none, is, numOf, number?, orZero}
-use Rattle.rules.specs.Notes.{Colour, green, blue, Register, Kind, mov, cpy, arith as arith-op, ld, st, jmp, bz, halt, Note, nothing, note, Notes, Pending, Dest, clear, jump, branch, Static, noteOf, exprOf, targetOf, next, colour?, noted?, has?, alike?, none?, clear?}
-use Rattle.rules.specs.Cards.{Slot, free, slot, Block, Card, chosen, meets?, meetAll?, met?, Entry, inside, start, entry, starts?, enters?}
+use Rattle.rules.specs.Notes.{Colour, green, blue, Register, Kind, mov, cpy, arith as arith-op, ld, st, jmp, bz, halt, Note, nothing, note, Notes, Pending, Dest, clear, jump, branch, Static, noteOf, exprOf, targetOf, next, colour?, has?, alike?, none?, clear?}
+use Rattle.rules.specs.Cards.{Slot, free, slot, Block, Card, chosen, meets?, meetAll?, met?, Entry, inside, start, entry, enters?}
 use Rattle.rules.specs.Rules.{oldest?, jump?, branch?, numeral?, target?, arrives?, needs, all?, own?, leaves?}
-use Rattle.rules.specs.Module.{Module, size, instr, passable?, falls?, last?, rule?, static, keptAt}
-use Rattle.soundness.specs.Passed.{AllFree, Opens, Rising, Passed}
+use Rattle.rules.specs.Module.{Module, size, passable?, falls?, last?, rule?}
 
 -- two expressions that the check takes for the same
 abbrev pub Same : Expr → Expr → Type 0
@@ -93,6 +92,10 @@ oldest-is (p ∷ q) e f t =
 abbrev pub Coloured : Colour → Note → Type 0
 Coloured t nothing = ⊥
 Coloured t (note c e) = c ≡ t
+
+-- registers that the notes N colour have the same colour by the notes O
+abbrev pub Sub : Notes → Notes → Type 0
+Sub N O = (t : Colour) (r : ℕ) → Coloured t (N r) → Coloured t (O r)
 
 -- register r has a note of colour c
 abbrev pub Has : Static → Register → Colour → Type 0
@@ -226,25 +229,3 @@ rule-is L m p i S t =
       own = own-is L (m .blocks) (last? m p) i S (each (needs L (m .blocks) (last? m p) i S) (h .0));
       falls = λ e. falls-is m p (next i S) (either (leaves? i) (falls? m p (next i S)) (h .1) e);
     }
-
--- blocks start below the end
-below : (n : ℕ) (bs : List Block) → Rising n bs → (p : ℕ) → starts? (entry bs p) ≡ true → p < n
-unfolding entry
-below n [] R p h = wrong h
-below n (b ∷ bs) R p h = one (eqb (b .start) p) (eqb-true (b .start) p) (below n bs (R .2) p) h
-  where
-    one : (y : Bool) → (y ≡ true → b .start ≡ p) → (starts? (entry bs p) ≡ true → p < n) → starts? (cond y (start (b .card)) (entry bs p)) ≡ true → p < n
-    one true e r h = subst (λ z. z < n) (e refl) (R .0)
-    one false e r h = r h
-
-pub starts-below : (L : Limits) (m : Module) → Passed L m → (p : ℕ) → starts? (entry (m .blocks) p) ≡ true → p < size m
-starts-below L m P = below (size m) (m .blocks) (P .rising)
-
--- the first block is there, and its card says nothing
-first-entry : (n : ℕ) (bs : List Block) → Opens bs → Rising n bs → (0 < n) × (K : Card) × (entry bs 0 ≡ start K) × (AllFree K)
-unfolding entry
-first-entry n [] O R = absurd O
-first-entry n (b ∷ bs) O R = (subst (λ z. z < n) (O .0) (R .0), b .card, ap (λ y. cond (eqb y 0) (start (b .card)) (entry bs 0)) (O .0), O .1)
-
-pub first-card : (L : Limits) (m : Module) → Passed L m → (0 < size m) × (K : Card) × (entry (m .blocks) 0 ≡ start K) × (AllFree K)
-first-card L m P = first-entry (size m) (m .blocks) (P .opens) (P .rising)

@@ -1,7 +1,6 @@
 -- The cells of a run are those at its start with the stores that it made laid over them, and it has counted them.
-use mathlib.Core.Path.{_≡_, refl, sym, ap, subst, subst⁻¹, _∙_}
-use mathlib.Core.Logic.{_⊎_, inl, inr}
-use mathlib.Core.Bool.{Bool, true, false, not, cond, _&&_}
+use mathlib.Core.Path.{_≡_, refl, sym, ap, _∙_}
+use mathlib.Core.Bool.{Bool, true, false, not, cond}
 use mathlib.Core.List.{List, [], _∷_, _++_}
 use Prim.Native.Nat.{ℕ, zero, suc, _+_, _-_}
 use native.Mathlib.Omega.{arith}
@@ -19,7 +18,7 @@ use Rattle.machine.specs.declared.ends.Report.the-variants.{CountersDiffer, Sto
 use Rattle.machine.specs.declared.ends.End.the-variants.{NoSuchCell, Halted}
 use Rattle.machine.specs.Ends.{going?}
 use Rattle.machine.specs.Pairs.{first, rest, some?, overlay}
-use Rattle.machine.specs.Machine.{State, Outcome, stop, go, need, reg, withRegs, withPlace, withQueue, withStore, at, fall, put, zero?, pair?, enqueue, commit, aim, land, halt, exec, act, settled, Run, counted, step, after, leaving, made, started}
+use Rattle.machine.specs.Machine.{State, Outcome, stop, go, need, reg, withRegs, withPlace, withQueue, withStore, at, fall, put, zero?, pair?, commit, aim, land, halt, exec, act, settled, Run, counted, step, leaving, made}
 use Rattle.soundness.specs.Finding.{unstruck, stores}
 use Rattle.soundness.proofs.Outcomes.{Goes, goes-need, goes-cond}
 

@@ -1,8 +1,8 @@
 -- The run without strikes: what the check knows stays true, and no step reports.
 use mathlib.Core.Path.{_≡_, refl, sym, ap, ap₂, subst, subst⁻¹, _∙_}
 use mathlib.Core.Logic.{_≢_}
-use mathlib.Core.Bool.{Bool, true, false, not, cond, _&&_}
-use mathlib.Core.List.{List, [], _∷_, _++_}
+use mathlib.Core.Bool.{Bool, true, false, not, cond}
+use mathlib.Core.List.{[], _∷_, _++_}
 use Prim.Native.Nat.{ℕ, zero, suc, _+_, _<_, _≤_}
 use native.Mathlib.Nat.{le-refl}
 use native.Mathlib.Omega.{arith}
@@ -17,19 +17,16 @@ use Rattle.machine.specs.declared.ends.End.the-variants.{NoSuchCell, Halted}
 use Rattle.machine.specs.Pairs.{first, rest, some?, overlay}
 use Rattle.machine.specs.Machine.{State, Outcome, stop, go, need, reg, withRegs, withPlace, withQueue, withStore, at, fall, zero?, pair?, aim, land, exec, act, begin}
 use Rattle.rules.specs.Limits.{Limits}
-use Rattle.rules.specs.Expressions.{Arithmetic, Expr, load, mk}
-use Rattle.rules.specs.Notes.{Colour, green, blue, Register, Kind, mov, cpy, arith as arith-op, ld, st, jmp, bz, halt, upd, Note, nothing, note, Notes, Pending, Dest, clear, jump, branch, Static, noteOf, exprOf, targetOf, setNote, setDest, pushed, others, popped, combine, next}
-use Rattle.rules.specs.Cards.{Slot, free, slot, Block, Card, cardNote, fresh, Entry, inside, start, entry, starts?}
+use Rattle.rules.specs.Expressions.{Arithmetic, Expr, load}
+use Rattle.rules.specs.Notes.{Colour, green, blue, Register, Kind, mov, cpy, arith as arith-op, ld, st, jmp, bz, halt, upd, Note, nothing, note, Notes, Dest, clear, jump, branch, Static, noteOf, exprOf, targetOf, setNote, setDest, pushed, others, popped, combine, next}
+use Rattle.rules.specs.Cards.{Slot, free, slot, Card, cardNote, fresh, Entry, inside, start, entry, starts?}
 use Rattle.rules.specs.Module.{Module, size, instr, enter, static}
-use Rattle.soundness.specs.Passed.{Word, AllFree, Passed}
-use Rattle.soundness.proofs.Rules.{Coloured, If, Oldest, Has, HasNumber, Target, Meets, Met, Enters, Arrives, Passable, Falls, Own, Rule, rule-is, starts-below, first-card}
+use Rattle.soundness.specs.Strikes.{Word}
+use Rattle.soundness.proofs.Passed.{Passed}
+use Rattle.soundness.proofs.Rules.{Coloured, Sub, Oldest, Has, HasNumber, Meets, Met, Enters, Arrives, Passable, Falls, Rule, rule-is}
 use Rattle.soundness.proofs.Outcomes.{Fine, fine-need, fine-cond}
 use Rattle.soundness.proofs.Words.{Words, overlay-word}
 use Rattle.soundness.proofs.Values.{Context, val, num-val, var-val, load-val, same-val, is-val, mk-val, Upto, upto-same, Holds, NoteHolds, Matched, Chain, DestHolds, Means, upd-same, upd-other, chain-end, chain-head, chain-le, chain-push, chain-pop, note-more, matched-push, dest-more, matched-length, matched-none, Popped, matched-pop}
-
--- registers that the notes N colour have the same colour by the notes O
-abbrev pub Sub : Notes → Notes → Type 0
-Sub N O = (t : Colour) (r : ℕ) → Coloured t (N r) → Coloured t (O r)
 
 -- both counters stand at a place, and what the check knows there is true
 pub record Typed (m : Module) (s : State) : Type 0 where
@@ -196,7 +193,7 @@ module _ (L : Limits) (room : L .queue ≤ 16) (m : Module) (P : Passed L m) (S 
       let there : Outcome = go (at (s .destination) 0 s) in
       let Q : State → Type 0 = Onward m (S .notes) in
       let z = enter-means S s W m t n Z A in
-      let typed : Onward m (S .notes) (at t 0 s) = λ _. (record { level = refl; below = starts-below L m P t (starts (entry (m .blocks) t) (S .notes) (A .1)); means = z .0 }, z .1) in
+      let typed : Onward m (S .notes) (at t 0 s) = λ _. (record { level = refl; below = P .below t (starts (entry (m .blocks) t) (S .notes) (A .1)); means = z .0 }, z .1) in
       fine-need Q (not (zero? (s .destination))) Destination (need (eqb (s .destination) x) Destination there) (not-zero (s .destination) (λ h. n (sym ed ∙ h)))
       (fine-need Q (eqb (s .destination) x) Destination there (eq-eqb _ _ (ed ∙ sym ex)) (subst⁻¹ (λ p. Onward m (S .notes) (at p 0 s)) ed typed))
 
@@ -300,14 +297,13 @@ act-fine L room m P w s Z t =
 
 pub begin-typed : (L : Limits) (m : Module) → Passed L m → (c : ℕ → ℕ) → Typed m (begin c)
 begin-typed L m P c =
-    let F = first-card L m P in
     let C : Context = record { variable = λ _. 0; cells = λ _. c } in
     record {
       level = refl;
-      below = F .0;
-      means = subst⁻¹ (λ e. Means (enter e (fresh [])) (begin c)) (F .2) (record {
+      below = P .some;
+      means = subst⁻¹ (λ e. Means (enter e (fresh [])) (begin c)) (P .opens) (record {
         context = C;
-        noted = λ r. subst⁻¹ (λ x. NoteHolds C 0 (cardNote x) 0) (F .3 r) tt;
+        noted = λ r. subst⁻¹ (λ x. NoteHolds C 0 (cardNote x) 0) (P .all-free r) tt;
         queued = tt;
         chain = (refl, refl);
         aimed = refl;

@@ -1,9 +1,9 @@
 -- Values of expressions, and what it is for the check's notes to be true of a state.
-use mathlib.Core.Path.{_≡_, refl, sym, ap, ap₂, subst, subst⁻¹, _∙_}
+use mathlib.Core.Path.{_≡_, refl, sym, ap, ap₂, subst, _∙_}
 use mathlib.Core.Logic.{_≢_}
-use mathlib.Core.Bool.{Bool, true, false, cond}
+use mathlib.Core.Bool.{true, cond}
 use mathlib.Core.List.{List, [], _∷_, _++_}
-use Prim.Native.Nat.{ℕ, zero, suc, _+_, _<_, _≤_}
+use Prim.Native.Nat.{ℕ, suc, _+_, _≤_}
 use native.Mathlib.Omega.{arith}
 use lib.Dec.{eqb}
 use lib.ListN.{length}
@@ -13,10 +13,10 @@ use Rattle.isa.specs.Words.{alu}
 use Rattle.machine.specs.declared.queue.Pair.{Pair}
 use Rattle.machine.specs.Pairs.{first, rest, some?, overlay}
 use Rattle.machine.specs.Machine.{State, zero?}
-use Rattle.rules.specs.Expressions.{Arithmetic, Expr, num, var, op, load, same?, Numeral, none, is, numOf, orZero, fold, mk}
-use Rattle.rules.specs.Notes.{upd, Note, nothing, note, Notes, Dest, clear, jump, branch, Pending, Static}
+use Rattle.rules.specs.Expressions.{Arithmetic, Expr, num, var, op, load, Numeral, none, is, numOf, orZero, fold, mk}
+use Rattle.rules.specs.Notes.{upd, Note, nothing, note, Dest, clear, jump, branch, Pending, Static}
 use Rattle.rules.proofs.Sameness.{same-eq}
-use Rattle.soundness.specs.Passed.{Word}
+use Rattle.soundness.specs.Strikes.{Word}
 use Rattle.soundness.proofs.Rules.{Same}
 
 -- what expressions are valued in: the word of each variable, and the cells after the first k of the block's stores

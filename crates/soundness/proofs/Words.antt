@@ -1,15 +1,13 @@
 -- A run over words holds words, under strikes by words too.
-use mathlib.Core.Path.{_≡_}
 use mathlib.Core.Bool.{Bool, true, false, not, cond}
 use mathlib.Core.List.{List, [], _∷_, _++_}
-use Prim.Native.Nat.{ℕ, zero, suc, _<_, _^_}
+use Prim.Native.Nat.{ℕ, zero, suc, _<_}
 use native.Mathlib.Omega.{arith}
 use lib.Dec.{eqb, ltb}
 use lib.ListN.{length, getD, set}
 use Rattle.std.proofs.shelf.Tests.{ltb-true}
 use Rattle.memory.specs.Cells.{replaced}
 use Rattle.isa.specs.Words.{alu, second}
-use Rattle.isa.specs.declared.kinds.Colour.{Colour}
 use Rattle.isa.specs.declared.kinds.Colour.the-variants.{Green, Blue}
 use Rattle.isa.specs.declared.kinds.Arithmetic.{Arithmetic}
 use Rattle.isa.specs.declared.kinds.Arithmetic.the-variants.{Add, Sub, Mul, Lt}
@@ -18,13 +16,11 @@ use Rattle.isa.specs.declared.kinds.Kind.{Kind}
 use Rattle.isa.specs.declared.kinds.Kind.the-variants.{Move, Copy, Arith, Load, Store, Jump, Branch, Halt}
 use Rattle.machine.specs.declared.queue.Pair.{Pair}
 use Rattle.machine.specs.declared.ends.Report.the-variants.{CountersDiffer, StoreDiffers, Destination, Queue, Outside}
-use Rattle.machine.specs.declared.ends.End.{End}
 use Rattle.machine.specs.declared.ends.End.the-variants.{NoSuchCell, Halted}
 use Rattle.machine.specs.Ends.{going?}
 use Rattle.machine.specs.Pairs.{first, rest, some?, overlay}
-use Rattle.machine.specs.Machine.{State, Outcome, stop, go, need, reg, at, fall, put, zero?, pair?, withStore, withQueue, enqueue, commit, aim, land, jump, branch, halt, exec, act, settled, Run, counted, step, begin, started}
-use Rattle.soundness.specs.Passed.{Word}
-use Rattle.soundness.specs.Strikes.{Place, register, counter, destination, address, word, pairAt, strike, Strike, Reached, begun, stepped, struck}
+use Rattle.machine.specs.Machine.{State, Outcome, stop, go, need, reg, at, fall, put, zero?, pair?, withStore, withQueue, enqueue, commit, aim, land, halt, exec, act, settled, Run, counted, step, begin}
+use Rattle.soundness.specs.Strikes.{Word, Place, register, counter, destination, address, word, pairAt, strike, Strike, Reached, begun, stepped, struck}
 use Rattle.soundness.proofs.Outcomes.{Goes, goes-need, goes-cond}
 
 abbrev pub AllWords : List Pair → Type 0

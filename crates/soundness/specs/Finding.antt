@@ -4,11 +4,11 @@ use mathlib.Core.Logic.{_⊎_}
 use mathlib.Core.Bool.{Bool}
 use mathlib.Core.List.{List, [], _∷_}
 use Prim.Native.Nat.{ℕ, _<_, _≤_}
-use lib.ListN.{length, take}
+use lib.ListN.{length, getD, take}
 use Rattle.std.specs.declared.option.Option.{Option}
 use Rattle.std.specs.declared.option.Option.the-variants.{Some, None}
 use Rattle.isa.specs.declared.kinds.Colour.{Colour}
-use Rattle.isa.specs.declared.kinds.Colour.the-variants.{Green, Blue}
+use Rattle.isa.specs.declared.kinds.Colour.the-variants.{Green}
 use Rattle.isa.specs.declared.kinds.Kind.{Kind}
 use Rattle.machine.specs.declared.queue.Pair.{Pair}
 use Rattle.machine.specs.declared.ends.End.{End}
@@ -19,8 +19,8 @@ use Rattle.machine.specs.Machine.{Run, after, made, started}
 use Rattle.rules.specs.Limits.{Limits}
 use Rattle.rules.specs.Notes.{Note, nothing, note, Notes}
 use Rattle.rules.specs.Module.{Module, static}
-use Rattle.soundness.specs.Passed.{Word, Passed}
-use Rattle.soundness.specs.Strikes.{Place, register, counter, destination, address, word, Strike, Reached}
+use Rattle.rules.specs.Words.{moduleOf, Passes}
+use Rattle.soundness.specs.Strikes.{Word, Place, register, counter, destination, address, word, Strike, Reached}
 
 -- the run without strikes, after n steps
 abbrev pub unstruck : (ℕ → Bool) → List Kind → (ℕ → ℕ) → ℕ → Run
@@ -91,8 +91,12 @@ pub record Outcomes (w : ℕ → Bool) (m : Module) (cells : ℕ → ℕ) (l : L
   -- with any number of strikes, all on one colour: the same
   pub one-colour : (k : Colour) → AllOf k (strikeColour w m cells) l → Found w (m .code) cells x
 
--- So it is for every module that the check has passed, with at most `room` pairs pending, over all writable
--- addresses w and all cells that are words, at every moment of every run.
+-- every element is a word
+abbrev pub AreWords : List ℕ → Type 0
+AreWords ws = (i : ℕ) → Word (getD ws i 0)
+
+-- So it is for every module that passes the check, with at most `room` pairs pending, whatever addresses are writable (those at
+-- which w is true), over all cells that are words, and at every moment of every run.
 abbrev pub Finding : ℕ → Type 0
-Finding room = (L : Limits) → L .queue ≤ room → (m : Module) → Passed L m → (w : ℕ → Bool) (cells : ℕ → ℕ) → ((a : ℕ) → Word (cells a))
-    → (l : List Strike) (x : Run) → Reached w (m .code) cells l x → Outcomes w m cells l x
+Finding room = (L : Limits) → L .queue ≤ room → (ws : List ℕ) → AreWords ws → Passes L ws → (w : ℕ → Bool) (cells : ℕ → ℕ) → ((a : ℕ) → Word (cells a))
+    → (l : List Strike) (x : Run) → Reached w (moduleOf ws .code) cells l x → Outcomes w (moduleOf ws) cells l x
