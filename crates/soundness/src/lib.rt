@@ -1,10 +1,11 @@
 // Checked code under strikes: a word of the machine that changes by itself either leaves the run as it is, or is found.
 ghost use mathlib.Core.Path.{_≡_};
+ghost use Rattle.rules.specs.Limits.{in-force};
 ghost use Rattle.soundness.specs.Finding.{Finding};
 
-// The pairs that the machine's queue has room for.
-fn queue_room() -> u8
-    ensures { λ r. ⌜ r ≡ 16 ⌝ }
+// The stores that green may be ahead of blue, by the limits in force.
+fn queue_limit() -> u8
+    ensures { λ r. ⌜ r ≡ in-force .queue ⌝ }
 {
     16
 }
@@ -14,5 +15,5 @@ fn queue_room() -> u8
 pub fn strikes_are_found() -> u8
     ensures { λ r. ⌜ Finding r ⌝ }
 {
-    queue_room()
+    queue_limit()
 }
