@@ -3,7 +3,7 @@ use mathlib.Core.Path.{_≡_, refl, sym, ap, subst, subst⁻¹, _∙_}
 use mathlib.Core.Logic.{inl, inr}
 use mathlib.Core.Bool.{Bool, false}
 use mathlib.Core.List.{List, [], _∷_}
-use Prim.Native.Nat.{ℕ, suc, _<_, _≤_}
+use Prim.Native.Nat.{ℕ, zero, suc, _<_, _≤_}
 use native.Mathlib.Nat.{not-suc-le-zero, le-of-suc-le-suc}
 use native.Mathlib.Omega.{arith}
 use lib.Dec.{lit≤}
@@ -19,17 +19,17 @@ use Rattle.machine.specs.declared.ends.End.{End}
 use Rattle.machine.specs.declared.ends.End.the-variants.{Going, Halted, NoSuchCell, Reported}
 use Rattle.machine.specs.Ends.{going?}
 use Rattle.machine.specs.Pairs.{overlay}
-use Rattle.machine.specs.Machine.{Outcome, stop, go, act, settled, Run, counted, step, leaving, begin}
+use Rattle.machine.specs.Machine.{Outcome, stop, go, act, settled, Run, counted, step, after, leaving, begin}
 use Rattle.rules.specs.Limits.{Limits}
-use Rattle.rules.specs.Notes.{Colour, green}
+use Rattle.rules.specs.Notes.{Colour, green, Kind}
 use Rattle.rules.specs.Module.{Module, size, instr, static}
 use Rattle.rules.specs.Words.{moduleOf}
-use Rattle.soundness.specs.Strikes.{Word, Place, struckAt, Strike, Reached, begun, stepped, struck}
-use Rattle.soundness.specs.Finding.{stores, IsReport, Undisturbed, Caught, Found, strikeColour, Of, AllOf, Outcomes, Finding}
+use Rattle.soundness.specs.Strikes.{Place, struckAt, Strike, Reached, begun, stepped, struck}
+use Rattle.soundness.specs.Finding.{stores, IsReport, Undisturbed, Caught, Found, strikeColour, Of, AllOf, AreCells, Outcomes, Finding}
 use Rattle.soundness.proofs.Rules.{rule-is}
 use Rattle.soundness.proofs.Passed.{Passed, passes-passed}
 use Rattle.soundness.proofs.Outcomes.{Goes, Fine, fine-quiet, Follow}
-use Rattle.soundness.proofs.Words.{Words}
+use Rattle.soundness.proofs.Words.{Words, reached-words}
 use Rattle.soundness.proofs.Typed.{Onward}
 use Rattle.soundness.proofs.Agree.{Agree, act-follow}
 use Rattle.soundness.proofs.Stores.{made-stored}
@@ -106,7 +106,7 @@ abbrev NotNone : List Strike → Type 0
 NotNone [] = ⊥
 NotNone (s ∷ l) = Unit {0}
 
-module _ (L : Limits) (room : L .queue ≤ 16) (m : Module) (P : Passed L m) (w : ℕ → Bool) (cells : ℕ → ℕ) (words : (a : ℕ) → Word (cells a)) where
+module _ (L : Limits) (room : L .queue ≤ 16) (m : Module) (P : Passed L m) (w : ℕ → Bool) (cells : ℕ → ℕ) (words : AreCells cells) where
   step-beside : (k : Colour) (x : Run) → Beside m w cells k x → Beside m w cells k (step w (m .code) x)
   step-beside k x (ended e F) = subst⁻¹ (Beside m w cells k) (step-ended w (m .code) x e) (ended e F)
   step-beside k x (along g U A) =
@@ -150,7 +150,17 @@ module _ (L : Limits) (room : L .queue ≤ 16) (m : Module) (P : Passed L m) (w 
       one (inr b) = absurd (quiet (b .a-report))
 
   pub outcomes : (l : List Strike) (x : Run) → Reached w (m .code) cells l x → Outcomes w m cells l x
-  outcomes l x r = record { calm = calm l x r; single = single l x r; one-colour = λ k. one-colour k l x r }
+  outcomes l x r = record {
+    calm = calm l x r;
+    single = single l x r;
+    one-colour = λ k. one-colour k l x r;
+    restartable = reached-words (P .words) words r .cells;
+  }
+
+-- many steps of a run
+pub reached-after : {w : ℕ → Bool} {code : List Kind} {cells : ℕ → ℕ} {l : List Strike} {x : Run} (n : ℕ) → Reached w code cells l x → Reached w code cells l (after w code x n)
+reached-after zero r = r
+reached-after (suc n) r = stepped (reached-after n r)
 
 pub finding : Finding 16
 finding L room ws wide H w cells words l x r = outcomes L room (moduleOf ws) (passes-passed L ws wide H) w cells words l x r

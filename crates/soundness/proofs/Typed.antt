@@ -25,7 +25,7 @@ use Rattle.soundness.specs.Strikes.{Word}
 use Rattle.soundness.proofs.Passed.{Passed}
 use Rattle.soundness.proofs.Rules.{Coloured, Sub, Oldest, Has, HasNumber, Meets, Met, Enters, Arrives, Passable, Falls, Rule, rule-is}
 use Rattle.soundness.proofs.Outcomes.{Fine, fine-need, fine-cond}
-use Rattle.soundness.proofs.Words.{Words, overlay-word}
+use Rattle.soundness.proofs.Words.{Words, overlay-word, seen}
 use Rattle.soundness.proofs.Values.{Context, val, num-val, var-val, load-val, same-val, is-val, mk-val, Upto, upto-same, Holds, NoteHolds, Matched, Chain, DestHolds, Means, upd-same, upd-other, chain-end, chain-head, chain-le, chain-push, chain-pop, note-more, matched-push, dest-more, matched-length, matched-none, Popped, matched-pop}
 
 -- both counters stand at a place, and what the check knows there is true
@@ -215,12 +215,12 @@ module _ (L : Limits) (room : L .queue ≤ 16) (m : Module) (P : Passed L m) (S 
       fall-fine (ld green a b) k (R .falls refl) _ refl refl
       (put-means S s W a (note green (load (S .kG) (exprOf (noteOf S b)))) (overlay (s .queue) (s .cells) (reg s b)) (suc (s .green)) (suc (s .blue))
       (load-holds S s W green (S .kG) b (overlay (s .queue) (s .cells)) (R .own) (le-refl _) (chain-end (W .context) (S .kB) (s .cells) (s .queue) (S .kG) (W .chain))
-      (overlay-word (s .queue) (s .cells) (Z .queue) (Z .cells) (reg s b))))
+      (overlay-word (s .queue) (s .cells) (Z .queue) (reg s b) (seen s Z b))))
   exec-fine w (ld blue a b) k q R =
       fall-fine (ld blue a b) k (R .falls refl) _ refl refl
       (put-means S s W a (note blue (load (S .kB) (exprOf (noteOf S b)))) (s .cells (reg s b)) (suc (s .green)) (suc (s .blue))
       (load-holds S s W blue (S .kB) b (s .cells) (R .own) (chain-le (W .context) (S .kB) (s .cells) (s .queue) (S .kG) (W .chain))
-      (chain-head (W .context) (S .kB) (s .cells) (s .queue) (S .kG) (W .chain)) (Z .cells (reg s b))))
+      (chain-head (W .context) (S .kB) (s .cells) (s .queue) (S .kG) (W .chain)) (seen s Z b)))
   exec-fine w (st green a b) k q R =
       let t : State = withPlace (withQueue s (s .queue ++ (record { address = reg s a; word = reg s b } ∷ []))) (suc (s .green)) (suc (s .blue)) (s .destination) in
       let e = matched-length (W .context) (S .kG) (S .pending) (s .queue) (W .queued) in

@@ -13,8 +13,7 @@ use Rattle.machine.specs.Machine.{State, Outcome, stop, go, act, settled, Run, 
 use Rattle.rules.specs.Limits.{Limits}
 use Rattle.rules.specs.Notes.{Kind, Notes, next}
 use Rattle.rules.specs.Module.{Module, instr, static}
-use Rattle.soundness.specs.Strikes.{Word}
-use Rattle.soundness.specs.Finding.{unstruck, Lasts, IsReport}
+use Rattle.soundness.specs.Finding.{unstruck, Lasts, IsReport, AreCells}
 use Rattle.soundness.proofs.Rules.{Sub}
 use Rattle.soundness.proofs.Passed.{Passed}
 use Rattle.soundness.proofs.Outcomes.{Goes, Fine}
@@ -82,7 +81,7 @@ module _ (m : Module) (w : ℕ → Bool) (cells : ℕ → ℕ) where
   rests n U (stop (Reported r)) F Z q = absurd F
   rests n U (go s) F Z q = inl (advance n U s q F Z .0)
 
-module _ (L : Limits) (room : L .queue ≤ 16) (m : Module) (P : Passed L m) (w : ℕ → Bool) (cells : ℕ → ℕ) (words : (a : ℕ) → Word (cells a)) where
+module _ (L : Limits) (room : L .queue ≤ 16) (m : Module) (P : Passed L m) (w : ℕ → Bool) (cells : ℕ → ℕ) (words : AreCells cells) where
   pub stands-first : Stands m w cells 0
   stands-first = record { going = refl; holds = begin-words cells words; typed = begin-typed L m P cells; lasts = λ j l. absurd (not-suc-le-zero l) }
 

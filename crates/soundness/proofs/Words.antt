@@ -21,6 +21,7 @@ use Rattle.machine.specs.Ends.{going?}
 use Rattle.machine.specs.Pairs.{first, rest, some?, overlay}
 use Rattle.machine.specs.Machine.{State, Outcome, stop, go, need, reg, at, fall, put, zero?, pair?, withStore, withQueue, enqueue, commit, aim, land, halt, exec, act, settled, Run, counted, step, begin}
 use Rattle.soundness.specs.Strikes.{Word, Place, register, counter, destination, address, word, pairAt, strike, Strike, Reached, begun, stepped, struck}
+use Rattle.soundness.specs.Finding.{AreCells}
 use Rattle.soundness.proofs.Outcomes.{Goes, goes-need, goes-cond}
 
 abbrev pub AllWords : List Pair → Type 0
@@ -29,19 +30,19 @@ AllWords (p ∷ q) = (Word (p .word)) × AllWords q
 
 pub record Words (s : State) : Type 0 where
   pub regs : (r : ℕ) → Word (s .regs r)
-  pub cells : (a : ℕ) → Word (s .cells a)
+  pub cells : AreCells (s .cells)
   pub queue : AllWords (s .queue)
 
-replaced-word : (f : ℕ → ℕ) (a v : ℕ) → ((r : ℕ) → Word (f r)) → Word v → (r : ℕ) → Word (replaced f a v r)
-replaced-word f a v h k r = one (eqb r a)
+replaced-word : (f : ℕ → ℕ) (a v : ℕ) → Word v → (r : ℕ) → Word (f r) → Word (replaced f a v r)
+replaced-word f a v k r h = one (eqb r a)
   where
     one : (b : Bool) → Word (cond b v (f r))
     one true = k
-    one false = h r
+    one false = h
 
-pub overlay-word : (q : List Pair) (c : ℕ → ℕ) → AllWords q → ((a : ℕ) → Word (c a)) → (a : ℕ) → Word (overlay q c a)
-overlay-word [] c h k a = k a
-overlay-word (p ∷ q) c h k a = overlay-word q (replaced c (p .address) (p .word)) (h .1) (replaced-word c (p .address) (p .word) k (h .0)) a
+pub overlay-word : (q : List Pair) (c : ℕ → ℕ) → AllWords q → (a : ℕ) → Word (c a) → Word (overlay q c a)
+overlay-word [] c h a k = k
+overlay-word (p ∷ q) c h a k = overlay-word q (replaced c (p .address) (p .word)) (h .1) a (replaced-word c (p .address) (p .word) (h .0) a k)
 
 push-words : (q : List Pair) (p : Pair) → AllWords q → Word (p .word) → AllWords (q ++ (p ∷ []))
 push-words [] p h k = (k, tt)
@@ -75,7 +76,7 @@ alu-word Lt x y = one (ltb x y)
 
 module _ (s : State) (W : Words s) where
   put-words : (a : Register) (v : ℕ) → Word v → Goes Words (put s a v)
-  put-words a v k = record { regs = replaced-word (s .regs) (a .number) v (W .regs) k; cells = W .cells; queue = W .queue }
+  put-words a v k = record { regs = λ r. replaced-word (s .regs) (a .number) v k r (W .regs r); cells = W .cells; queue = W .queue }
 
   enqueue-words : (a v : ℕ) → Word v → Goes Words (enqueue s a v)
   enqueue-words a v k =
@@ -91,7 +92,7 @@ module _ (s : State) (W : Words s) where
       goes-need Words (some? (s .queue)) Queue (need same StoreDiffers made) λ _.
       goes-need Words same StoreDiffers made λ _.
       goes-cond Words (w a) stored (stop NoSuchCell)
-      (record { regs = W .regs; cells = replaced-word (s .cells) a v (W .cells) k; queue = rest-words (s .queue) (W .queue) }) tt
+      (record { regs = W .regs; cells = λ b l. replaced-word (s .cells) a v k b (W .cells b l); queue = rest-words (s .queue) (W .queue) }) tt
 
   aim-words : (x : ℕ) → Goes Words (aim s x)
   aim-words x = goes-need Words (zero? (s .destination)) Destination (fall x s) λ _. record { regs = W .regs; cells = W .cells; queue = W .queue }
@@ -107,12 +108,16 @@ module _ (s : State) (W : Words s) where
       goes-need Words (zero? (s .destination)) Destination (need (not (some? (s .queue))) Queue (stop Halted)) λ _.
       goes-need Words (not (some? (s .queue))) Queue (stop Halted) λ _. tt
 
+  -- a register's value is an address
+  pub seen : (b : Register) → Word (s .cells (reg s b))
+  seen b = W .cells (reg s b) (W .regs (b .number))
+
   exec-words : (w : ℕ → Bool) (i : Kind) → Word (second i) → Goes Words (exec w i s)
   exec-words w (Move c a n) k = put-words a n k
   exec-words w (Copy a b) k = put-words a (reg s b) (W .regs (b .number))
   exec-words w (Arith o a b c) k = put-words a _ (alu-word o (reg s b) (reg s c))
-  exec-words w (Load Green a b) k = put-words a _ (overlay-word (s .queue) (s .cells) (W .queue) (W .cells) (reg s b))
-  exec-words w (Load Blue a b) k = put-words a _ (W .cells (reg s b))
+  exec-words w (Load Green a b) k = put-words a _ (overlay-word (s .queue) (s .cells) (W .queue) (reg s b) (seen b))
+  exec-words w (Load Blue a b) k = put-words a _ (seen b)
   exec-words w (Store Green a b) k = enqueue-words (reg s a) (reg s b) (W .regs (b .number))
   exec-words w (Store Blue a b) k = commit-words w (reg s a) (reg s b) (W .regs (b .number))
   exec-words w (Jump Green a) k = aim-words (reg s a)
@@ -132,11 +137,11 @@ act-words w code h s W =
     goes-need Words (eqb (s .green) (s .blue)) CountersDiffer (need (ltb (s .green) (length code)) Outside does) λ _.
     goes-need Words (ltb (s .green) (length code)) Outside does λ l. exec-words s W w (getD code (s .green) Halt) (h (s .green) (ltb-true _ _ l))
 
-pub begin-words : (c : ℕ → ℕ) → ((a : ℕ) → Word (c a)) → Words (begin c)
+pub begin-words : (c : ℕ → ℕ) → AreCells c → Words (begin c)
 begin-words c h = record { regs = λ r. omega arith; cells = h; queue = tt }
 
 strike-words : (p : Place) (v : ℕ) (s : State) → Word v → Words s → Words (strike p v s)
-strike-words (register r) v s k W = record { regs = replaced-word (s .regs) r v (W .regs) k; cells = W .cells; queue = W .queue }
+strike-words (register r) v s k W = record { regs = λ x. replaced-word (s .regs) r v k x (W .regs x); cells = W .cells; queue = W .queue }
 strike-words (counter Green) v s k W = record { regs = W .regs; cells = W .cells; queue = W .queue }
 strike-words (counter Blue) v s k W = record { regs = W .regs; cells = W .cells; queue = W .queue }
 strike-words destination v s k W = record { regs = W .regs; cells = W .cells; queue = W .queue }
@@ -157,7 +162,7 @@ step-words w code h x W = one (going? (x .end))
     one false = W
 
 -- so the cells that a run leaves are words, on which the next run may start
-pub reached-words : {w : ℕ → Bool} {code : List Kind} {cells : ℕ → ℕ} {l : List Strike} {x : Run} → Constants code → ((a : ℕ) → Word (cells a)) → Reached w code cells l x → Words (x .state)
+pub reached-words : {w : ℕ → Bool} {code : List Kind} {cells : ℕ → ℕ} {l : List Strike} {x : Run} → Constants code → AreCells cells → Reached w code cells l x → Words (x .state)
 reached-words {cells = cells} h k begun = begin-words cells k
 reached-words {w} {code} h k (stepped {x = x} r) = step-words w code h x (reached-words h k r)
 reached-words h k (struck {x = x} r g p v t q) = strike-words p v (x .state) q (reached-words h k r)

@@ -82,6 +82,10 @@ abbrev pub AllOf : Colour → (Strike → Option Colour) → List Strike → Typ
 AllOf k colour [] = Unit {0}
 AllOf k colour (x ∷ l) = (Of k (colour x)) × AllOf k colour l
 
+-- at each of the 2^32 addresses stands a word
+abbrev pub AreCells : (ℕ → ℕ) → Type 0
+AreCells cells = (a : ℕ) → Word a → Word (cells a)
+
 -- what is found of a run x that the strikes l have hit
 pub record Outcomes (w : ℕ → Bool) (m : Module) (cells : ℕ → ℕ) (l : List Strike) (x : Run) : Type 0 where
   -- with no strike: as the unstruck run, and no report
@@ -90,13 +94,15 @@ pub record Outcomes (w : ℕ → Bool) (m : Module) (cells : ℕ → ℕ) (l : L
   pub single : length l ≤ 1 → Found w (m .code) cells x
   -- with any number of strikes, all on one colour: the same
   pub one-colour : (k : Colour) → AllOf k (strikeColour w m cells) l → Found w (m .code) cells x
+  -- whatever was struck, its cells are such that another run can start on them
+  pub restartable : AreCells (x .state .cells)
 
 -- every element is a word
 abbrev pub AreWords : List ℕ → Type 0
 AreWords ws = (i : ℕ) → Word (getD ws i 0)
 
 -- So it is for every module that passes the check, with at most `room` pairs pending, whatever addresses are writable (those at
--- which w is true), over all cells that are words, and at every moment of every run.
+-- which w is true), over all cells of words, and at every moment of every run.
 abbrev pub Finding : ℕ → Type 0
-Finding room = (L : Limits) → L .queue ≤ room → (ws : List ℕ) → AreWords ws → Passes L ws → (w : ℕ → Bool) (cells : ℕ → ℕ) → ((a : ℕ) → Word (cells a))
+Finding room = (L : Limits) → L .queue ≤ room → (ws : List ℕ) → AreWords ws → Passes L ws → (w : ℕ → Bool) (cells : ℕ → ℕ) → AreCells cells
     → (l : List Strike) (x : Run) → Reached w (moduleOf ws .code) cells l x → Outcomes w (moduleOf ws) cells l x
