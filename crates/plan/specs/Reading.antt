@@ -15,11 +15,16 @@ use Rattle.plan.specs.declared.fault.ReadFault.{ReadFault}
 use Rattle.plan.specs.declared.fault.ReadFault.the-variants as fault
 use Rattle.plan.specs.declared.mark.Bracket.{Bracket}
 use Rattle.plan.specs.declared.mark.Bracket.the-variants.{Round, Square}
+use Rattle.plan.specs.declared.mark.Fixed.{Fixed}
+use Rattle.plan.specs.declared.mark.Fixed.the-variants as wanted
 use Rattle.plan.specs.declared.mark.Mark.{Mark}
 use Rattle.plan.specs.declared.mark.Mark.the-variants as mark
 use Rattle.plan.specs.declared.mark.Placed.{Placed}
 use Rattle.plan.specs.declared.tree.NodeId.{NodeId}
 use Rattle.plan.specs.declared.reader.Reader.{Reader}
+use Rattle.plan.specs.declared.repeats.OpenRepeat.{OpenRepeat}
+use Rattle.plan.specs.declared.tables.Plan.{Plan}
+use Rattle.plan.specs.Plans.{spent}
 
 -- what is still to be read
 abbrev pub rest : Reader → List Placed
@@ -65,27 +70,51 @@ abbrev pub operator : Option Mark → Option Arithmetic
 operator None = None
 operator (Some m) = operator-of m
 
--- this mark closes that bracket
-abbrev pub closes : Bracket → Mark → Bool
-closes b mark.Let = false
-closes b mark.Put = false
-closes b mark.Repeat = false
-closes b mark.End = false
-closes b mark.LineEnd = false
-closes b (mark.Number n) = false
-closes b (mark.Variable v) = false
-closes b (mark.Operator o) = false
-closes b (mark.Open c) = false
-closes Round (mark.Close Round) = true
-closes Round (mark.Close Square) = false
-closes Square (mark.Close Round) = false
-closes Square (mark.Close Square) = true
-closes b mark.Comma = false
-closes b mark.Equals = false
+-- the mark that must come
+abbrev pub fixed : Fixed → Mark
+fixed wanted.Comma = mark.Comma
+fixed wanted.Equals = mark.Equals
+fixed (wanted.Close b) = mark.Close b
 
-abbrev pub closing : Bracket → Option Mark → Bool
-closing b None = false
-closing b (Some m) = closes b m
+abbrev pub same-bracket : Bracket → Bracket → Bool
+same-bracket Round Round = true
+same-bracket Round Square = false
+same-bracket Square Round = false
+same-bracket Square Square = true
+
+abbrev pub is-comma : Fixed → Bool
+is-comma wanted.Comma = true
+is-comma wanted.Equals = false
+is-comma (wanted.Close b) = false
+
+abbrev pub is-equals : Fixed → Bool
+is-equals wanted.Comma = false
+is-equals wanted.Equals = true
+is-equals (wanted.Close b) = false
+
+abbrev pub is-close : Fixed → Bracket → Bool
+is-close wanted.Comma c = false
+is-close wanted.Equals c = false
+is-close (wanted.Close b) c = same-bracket b c
+
+-- this mark is the one that must come
+abbrev pub is-wanted : Fixed → Mark → Bool
+is-wanted w mark.Let = false
+is-wanted w mark.Put = false
+is-wanted w mark.Repeat = false
+is-wanted w mark.End = false
+is-wanted w mark.LineEnd = false
+is-wanted w (mark.Number n) = false
+is-wanted w (mark.Variable v) = false
+is-wanted w (mark.Operator o) = false
+is-wanted w (mark.Open c) = false
+is-wanted w (mark.Close c) = is-close w c
+is-wanted w mark.Comma = is-comma w
+is-wanted w mark.Equals = is-equals w
+
+abbrev pub wanted-next : Fixed → Option Mark → Bool
+wanted-next w None = false
+wanted-next w (Some m) = is-wanted w m
 
 -- there is a place for a node for each mark that is left
 abbrev pub Room : Reader → Type 0
@@ -98,6 +127,7 @@ pub record Goes (a b : Reader) : Type 0 where
   pub more : vec-len (a .plan .nodes) ≤ vec-len (b .plan .nodes)
   pub marks : b .marks ≡ a .marks
   pub statements : b .plan .statements ≡ a .plan .statements
+  pub own : b .plan .own ≡ a .plan .own
 
 -- a node that was read is an entry
 abbrev pub Inside : Result NodeId ReadFault → Reader → Type 0
@@ -109,6 +139,31 @@ pub record Grew (a b : Reader) (x : NodeId) : Type 0 where
   pub rest-is : rest b ≡ rest a
   pub marks-is : b .marks ≡ a .marks
   pub statements-is : b .plan .statements ≡ a .plan .statements
+  pub own-is : b .plan .own ≡ a .plan .own
   pub len : vec-len (b .plan .nodes) ≤ vec-len (a .plan .nodes) + 1
   pub more : vec-len (a .plan .nodes) ≤ vec-len (b .plan .nodes)
   pub inside-is : x .index < vec-len (b .plan .nodes)
+
+-- there is a place for a node and for a statement for each mark that is left
+pub record Rooms (r : Reader) : Type 0 where
+  pub nodes : Room r
+  pub statements : vec-len (r .plan .statements) + length (rest r) ≤ 8192
+
+-- .. for a statement more
+pub record Spare (r : Reader) : Type 0 where
+  pub nodes : Room r
+  pub statements : vec-len (r .plan .statements) + length (rest r) < 8192
+
+-- what a line keeps; n statements are made behind its first mark
+pub record Onward (n : ℕ) (a b : Reader) : Type 0 where
+  pub forth : length (rest b) ≤ length (rest a)
+  pub room : vec-len (b .plan .nodes) + length (rest b) ≤ vec-len (a .plan .nodes) + length (rest a)
+  pub lines : vec-len (b .plan .statements) + length (rest b) ≤ n + vec-len (a .plan .statements) + length (rest a)
+  pub longer : vec-len (a .plan .statements) ≤ vec-len (b .plan .statements)
+  pub dearer : spent (a .plan) ≤ spent (b .plan)
+  pub marks : b .marks ≡ a .marks
+
+-- the open REPEATs are entries, and what was spent when they began is no more than what is now
+abbrev pub Opened : Plan → List OpenRepeat → Type 0
+Opened p [] = Unit {0}
+Opened p (x ∷ xs) = (x .statement < vec-len (p .statements)) × (x .need ≤ spent p) × Opened p xs

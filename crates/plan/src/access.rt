@@ -2,7 +2,7 @@
 ghost use mathlib.Core.Path.{_≡_};
 ghost use Prim.Native.Nat.{_+_, _≤_};
 ghost use Rattle.std.specs.Of.Vec.{vec-items};
-ghost use Rattle.plan.specs.Plans.{spent};
+ghost use Rattle.plan.specs.Plans.{spent, needed};
 use crate::tables::Plan;
 use crate::tree::Node;
 use crate::tree::Statement;
@@ -32,7 +32,7 @@ impl Plan {
 
     // How many instructions the plan's code has at most.
     pub fn need(&self) -> u32
-        ensures { λ r. ⌜ r ≡ 13 + spent (now (self .entry)) ⌝ }
+        ensures { λ r. ⌜ r ≡ needed (now (self .entry)) ⌝ }
     {
         13 + self.spent()
     }

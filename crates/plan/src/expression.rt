@@ -1,15 +1,14 @@
 // Reading an expression: its parts call each other in a cycle, and each turn has fewer marks left.
 ghost use mathlib.Core.Path.{_≡_};
 ghost use Prim.Native.Nat.{ℕ, _+_, _<_, _≤_};
-ghost use lib.ListN.{length};
 ghost use Rattle.std.specs.Of.Vec.{vec-len};
-ghost use Rattle.std.specs.Vec.{made};
 ghost use Rattle.plan.specs.Tables.{reach};
-ghost use Rattle.plan.specs.Reading.{rest, Room, Goes, Grew, Inside};
+ghost use Rattle.plan.specs.Reading.{Room, Goes, Grew, Inside};
 use crate::fault::ReadFault;
 use crate::fault::ReadFromMark;
 use crate::limits::NESTING;
 use crate::mark::Bracket;
+use crate::mark::Fixed;
 use crate::mark::Mark;
 use crate::nesting::Nest;
 use crate::nesting::Nesting;
@@ -26,20 +25,6 @@ impl Reader {
         ensures { λ r. ⌜ Grew (now (self .entry)) (now (self .exit)) r ⌝ }
     {
         self.plan.add_node(node)
-    }
-
-    // Passes over the end of a bracket.
-    fn close(&mut self, bracket: Bracket) -> Result<(), ReadFault>
-        ensures goes { λ _. ⌜ Goes (now (self .entry)) (now (self .exit)) ⌝ }
-        ensures spare { λ r. ⌜ made r (λ _. length (rest (now (self .exit))) + 1 ≡ length (rest (now (self .entry)))) ⌝ }
-        ensures nodes { λ _. ⌜ now (self .exit) .plan ≡ now (self .entry) .plan ⌝ }
-    {
-        if self.at_close(bracket) {
-            self.skip();
-            Ok(())
-        } else {
-            self.refuse()
-        }
     }
 
     // The node of what stands in a bracket: a cell's for a square one.
@@ -133,7 +118,7 @@ impl Reader {
                 let guard = Nest::enter(nesting);
                 self.skip();
                 let inner = self.expr(guard.nesting)?;
-                self.close(bracket)?;
+                self.pass(Fixed::Close(bracket))?;
                 Ok(self.wrap(bracket, inner))
             }
             _ => self.refuse(),

@@ -6,7 +6,7 @@ ghost use lib.ListN.{getD, set};
 ghost use Rattle.plan.specs.declared.tree.Statement.the-variants.{End};
 ghost use Rattle.std.specs.Of.Vec.{vec-items, vec-len, vec-cap};
 ghost use Rattle.std.specs.Vec.{made};
-ghost use Rattle.plan.specs.Tables.{reach, roots, own, loop, with-body};
+ghost use Rattle.plan.specs.Tables.{reach, roots, own as ownOf, loop, with-body};
 use crate::limits::TEXT;
 use crate::tables::Plan;
 use crate::tree::Node;
@@ -18,7 +18,7 @@ use std::alloc::Global;
 impl Statement {
     // The instructions that it needs beside two for each of its nodes.
     fn own(&self) -> u32
-        ensures { λ r. ⌜ r ≡ own (now (self .entry)) ⌝ }
+        ensures { λ r. ⌜ r ≡ ownOf (now (self .entry)) ⌝ }
     {
         match self {
             Statement::Let(_, _) => 2,
@@ -79,6 +79,7 @@ impl Plan {
         requires children { ⌜ reach node ≤ vec-len (now self .nodes) ⌝ }
         ensures nodes { λ _. ⌜ vec-items (now (self .exit) .nodes) ≡ vec-items (now (self .entry) .nodes) ++ (node ∷ []) ⌝ }
         ensures statements { λ _. ⌜ now (self .exit) .statements ≡ now (self .entry) .statements ⌝ }
+        ensures own { λ _. ⌜ now (self .exit) .own ≡ now (self .entry) .own ⌝ }
         ensures value { λ r. ⌜ r .index ≡ vec-len (now (self .entry) .nodes) ⌝ }
         ensures len { λ _. ⌜ vec-len (now (self .exit) .nodes) ≡ vec-len (now (self .entry) .nodes) + 1 ⌝ }
     {
@@ -93,6 +94,7 @@ impl Plan {
         requires roots { ⌜ roots statement ≤ vec-len (now self .nodes) ⌝ }
         ensures nodes { λ _. ⌜ now (self .exit) .nodes ≡ now (self .entry) .nodes ⌝ }
         ensures statements { λ _. ⌜ vec-items (now (self .exit) .statements) ≡ vec-items (now (self .entry) .statements) ++ (statement ∷ []) ⌝ }
+        ensures own { λ _. ⌜ now (self .exit) .own ≡ now (self .entry) .own + ownOf statement ⌝ }
         ensures len { λ _. ⌜ vec-len (now (self .exit) .statements) ≡ vec-len (now (self .entry) .statements) + 1 ⌝ }
     {
         self.own += statement.own();
@@ -105,6 +107,7 @@ impl Plan {
         requires { ⌜ at < vec-len (now self .statements) ⌝ }
         ensures nodes { λ _. ⌜ now (self .exit) .nodes ≡ now (self .entry) .nodes ⌝ }
         ensures statements { λ _. ⌜ vec-items (now (self .exit) .statements) ≡ set (vec-items (now (self .entry) .statements)) at (with-body (getD (vec-items (now (self .entry) .statements)) at (End 0)) body) ⌝ }
+        ensures own { λ _. ⌜ now (self .exit) .own ≡ now (self .entry) .own ⌝ }
         ensures len { λ _. ⌜ vec-len (now (self .exit) .statements) ≡ vec-len (now (self .entry) .statements) ⌝ }
     {
         let old = self.statements[at];

@@ -25,6 +25,14 @@ pub enum Mark {
     Equals,
 }
 
+// A mark that must come, where no other may.
+#[derive(Clone, Copy)]
+pub enum Fixed {
+    Comma,
+    Equals,
+    Close(Bracket),
+}
+
 // A mark and the byte at which it begins.
 #[derive(Clone, Copy)]
 pub struct Placed {

@@ -2,11 +2,13 @@
 ghost use mathlib.Core.Path.{_≡_};
 ghost use Prim.Native.Nat.{_+_};
 ghost use lib.ListN.{length};
-ghost use Rattle.plan.specs.Reading.{rest, first, tail, operator, closing, placeOf, Refused};
+ghost use Rattle.std.specs.Vec.{made};
+ghost use Rattle.plan.specs.Reading.{rest, first, tail, operator, wanted-next, placeOf, Refused, Goes};
 use crate::fault::MarkFault;
 use crate::fault::ReadFault;
 use crate::fault::ReadFromMark;
 use crate::mark::Bracket;
+use crate::mark::Fixed;
 use crate::mark::Mark;
 use crate::marks::Marks;
 use crate::tables::Plan;
@@ -73,14 +75,30 @@ impl Reader {
         }
     }
 
-    // Whether the end of this kind of bracket comes next.
-    pub(crate) fn at_close(&self, bracket: Bracket) -> bool
-        ensures { λ r. ⌜ r ≡ closing bracket (first (rest (now (self .entry)))) ⌝ }
+    // Whether this mark comes next.
+    fn is_next(&self, wanted: Fixed) -> bool
+        ensures { λ r. ⌜ r ≡ wanted-next wanted (first (rest (now (self .entry)))) ⌝ }
     {
-        match (self.peek(), bracket) {
-            (Some(Mark::Close(Bracket::Round)), Bracket::Round) => true,
-            (Some(Mark::Close(Bracket::Square)), Bracket::Square) => true,
+        match (self.peek(), wanted) {
+            (Some(Mark::Comma), Fixed::Comma) => true,
+            (Some(Mark::Equals), Fixed::Equals) => true,
+            (Some(Mark::Close(Bracket::Round)), Fixed::Close(Bracket::Round)) => true,
+            (Some(Mark::Close(Bracket::Square)), Fixed::Close(Bracket::Square)) => true,
             _ => false,
+        }
+    }
+
+    // Passes over this mark, which must come.
+    pub(crate) fn pass(&mut self, wanted: Fixed) -> Result<(), ReadFault>
+        ensures goes { λ _. ⌜ Goes (now (self .entry)) (now (self .exit)) ⌝ }
+        ensures spare { λ r. ⌜ made r (λ _. length (rest (now (self .exit))) + 1 ≡ length (rest (now (self .entry)))) ⌝ }
+        ensures plan { λ _. ⌜ now (self .exit) .plan ≡ now (self .entry) .plan ⌝ }
+    {
+        if self.is_next(wanted) {
+            self.skip();
+            Ok(())
+        } else {
+            self.refuse()
         }
     }
 }

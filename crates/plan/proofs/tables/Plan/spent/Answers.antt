@@ -1,6 +1,5 @@
 use native.Mathlib.Omega.{arith}
-use mathlib.Core.Path.{ap, _∙_}
-use Rattle.std.specs.Of.Vec.{vec-items, vec-len}
+use Rattle.std.specs.Of.Vec.{vec-items}
 use Rattle.plan.proofs.Growing.{owns-most}
 use Rattle.plan.proofs.tables.Plan.spent.Needs as need
 
@@ -13,6 +12,6 @@ pub returns : need.returns
 returns c =
     let p = c .args .self .now in
     record {
-      value = omega (arith, p .owned, c .len .ensures);
+      value = omega (arith, c .len .ensures);
       bound = omega (arith, owns-most (vec-items (p .statements)), p .statements .ok .0, p .owned, p .few .0, p .few .1, c .len .ensures);
     }
