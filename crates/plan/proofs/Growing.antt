@@ -50,6 +50,7 @@ module _ {X : Type 0} (d : X) (f : X → ℕ) (b : ℕ → ℕ) where
     where
       low : k < length xs
       low = rw (length-set xs i x) at l
+
       go : (k ≡ i) ⊎ (k ≢ i) → f (getD (set xs i x) k d) ≤ b k
       go (inl e) =
           let at-i : i < length xs = omega (arith, low) in

@@ -59,7 +59,12 @@ impl Plan {
     {
         let nodes = Vec::with_capacity(heap, TEXT)?;
         let statements = Vec::with_capacity(heap, TEXT)?;
-        Ok(Plan { nodes, statements, own: 0, repeats: 0 })
+        Ok(Plan {
+            nodes,
+            statements,
+            own: 0,
+            repeats: 0,
+        })
     }
 
     // Makes the plan empty.

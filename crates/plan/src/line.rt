@@ -4,10 +4,13 @@ ghost use Prim.Native.Nat.{ℕ, _+_, _<_, _≤_};
 ghost use lib.ListN.{length};
 ghost use Rattle.std.specs.Of.Vec.{vec-len};
 ghost use Rattle.std.specs.Vec.{made};
+ghost use Rattle.std.specs.declared.option.Option.the-variants.{Some};
+ghost use Rattle.stack.specs.Items.{items, room as slots};
 ghost use Rattle.plan.specs.Plans.{spent};
-ghost use Rattle.plan.specs.Reading.{rest, Room, Rooms, Spare, Goes, Onward, Opened};
+ghost use Rattle.plan.specs.Reading.{rest, first, Room, Rooms, Spare, Goes, Onward, Opened};
 use crate::fault::ReadFault;
 use crate::fault::ReadFromMark;
+use crate::limits::REPEATS;
 use crate::mark::Fixed;
 use crate::mark::Mark;
 use crate::nesting::Nesting;
@@ -16,6 +19,7 @@ use crate::repeats::OpenRepeat;
 use crate::tree::Expression;
 use crate::tree::Statement;
 use crate::variable::Variable;
+use stack::slots::Stack;
 
 impl Reader {
     // Passes over a line's end; the text's end is one.
@@ -103,7 +107,8 @@ impl Reader {
         let count = self.expression(nesting)?;
         self.line_end()?;
         let statement = self.plan.statements.len();
-        self.plan.add_statement(Statement::Repeat { count, body: 0 });
+        self.plan
+            .add_statement(Statement::Repeat { count, body: 0 });
         let need = self.plan.spent();
         Ok(OpenRepeat { statement, need })
     }
@@ -120,5 +125,56 @@ impl Reader {
         self.plan.set_body(repeat.statement, body);
         self.plan.add_statement(Statement::End { body });
         Ok(())
+    }
+
+    // One line, which begins with this mark.
+    pub(crate) fn line(
+        &mut self,
+        mark: Mark,
+        nesting: &mut Nesting,
+        repeats: &mut Stack<'_, OpenRepeat>,
+    ) -> Result<(), ReadFault>
+        requires rooms { ⌜ Rooms (now self) ⌝ }
+        requires seen { ⌜ Some mark ≡ first (rest (now self)) ⌝ }
+        requires opened { ⌜ Opened (now self .plan) (items (now repeats)) ⌝ }
+        requires slots { ⌜ slots (now repeats) ≡ 4 ⌝ }
+        ensures depth { λ _. ⌜ now (nesting .exit) .depth ≡ now (nesting .entry) .depth ⌝ }
+        ensures onward { λ _. ⌜ Onward 0 (now (self .entry)) (now (self .exit)) ⌝ }
+        ensures less { λ r. ⌜ made r (λ _. length (rest (now (self .exit))) < length (rest (now (self .entry)))) ⌝ }
+        ensures opened { λ _. ⌜ Opened (now (self .exit) .plan) (items (now (repeats .exit))) ⌝ }
+        ensures slots { λ _. ⌜ slots (now (repeats .exit)) ≡ 4 ⌝ }
+    {
+        match mark {
+            Mark::LineEnd => {
+                self.skip();
+                Ok(())
+            }
+            Mark::Let => {
+                self.skip();
+                self.let_line(nesting)
+            }
+            Mark::Put => {
+                self.skip();
+                self.put_line(nesting)
+            }
+            Mark::Repeat => {
+                if repeats.len() >= REPEATS {
+                    let place = self.place()?;
+                    return Err(ReadFault::Nesting(place));
+                }
+                self.skip();
+                let repeat = self.repeat_line(nesting)?;
+                let _ = repeats.push(repeat);
+                Ok(())
+            }
+            Mark::End => {
+                let Some(repeat) = repeats.pop() else {
+                    return self.refuse();
+                };
+                self.skip();
+                self.end_line(repeat)
+            }
+            _ => self.refuse(),
+        }
     }
 }

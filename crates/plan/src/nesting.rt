@@ -3,6 +3,7 @@ ghost use mathlib.Core.Path.{_≡_};
 ghost use Prim.Native.Nat.{_+_, _<_};
 ghost use denote.Ref.{name};
 
+#[derive(Drop)]
 pub struct Nesting {
     pub(crate) depth: u8,
 }
@@ -31,6 +32,9 @@ impl Drop for Nest<'_> {
         ensures { λ _. ⌜ now (self .exit .0) .depth ≡ self .entry .before ⌝ }
     {
         self.nesting.depth = self.before;
-        let Nest { nesting: _, before: _ } = self;
+        let Nest {
+            nesting: _,
+            before: _,
+        } = self;
     }
 }

@@ -9,9 +9,9 @@ use crate::fault::MarkFault;
 use crate::mark::Mark;
 use crate::mark::Placed;
 use crate::marks::Marks;
+use crate::word::Kind;
 use crate::word::kind_of;
 use crate::word::spelled;
-use crate::word::Kind;
 use std::alloc::AllocError;
 use std::alloc::Global;
 

@@ -27,7 +27,9 @@ pub fn kind_of(byte: u8) -> Kind {
 // The variable that a letter names.
 fn variable(letter: u8) -> Option<Mark> {
     match letter {
-        b'A'..=b'F' => Some(Mark::Variable(Variable { number: letter - b'A' })),
+        b'A'..=b'F' => Some(Mark::Variable(Variable {
+            number: letter - b'A',
+        })),
         _ => None,
     }
 }
