@@ -8,8 +8,8 @@ use Rattle.std.specs.declared.option.Option.the-variants.{Some, None}
 use Rattle.std.specs.declared.result.Result.{Result}
 use Rattle.std.specs.declared.result.Result.the-variants.{Ok, Err}
 use Rattle.plan.specs.declared.fault.MarkFault.{MarkFault}
-use Rattle.plan.specs.declared.mark.Mark.the-variants.{Let}
-use Rattle.plan.specs.declared.mark.Placed.{Placed}
+use Rattle.grammar.specs.declared.mark.Mark.the-variants.{Let}
+use Rattle.grammar.specs.declared.mark.Placed.{Placed}
 use Rattle.plan.specs.Reading.{first, tail, placeOf}
 
 module _ (xs : List Placed) (i : ℕ) where

@@ -9,8 +9,8 @@ use Rattle.std.specs.declared.result.Result.{Result}
 use Rattle.std.specs.declared.result.Result.the-variants.{Ok, Err}
 use Rattle.std.specs.Vec.{made}
 use Rattle.std.specs.Of.Vec.{vec-items, vec-len}
-use Rattle.plan.specs.declared.mark.Mark.{Mark}
-use Rattle.plan.specs.declared.mark.Placed.{Placed}
+use Rattle.grammar.specs.declared.mark.Mark.{Mark}
+use Rattle.grammar.specs.declared.mark.Placed.{Placed}
 use Rattle.plan.specs.declared.repeats.OpenRepeat.{OpenRepeat}
 use Rattle.plan.specs.declared.tables.Plan.{Plan}
 use Rattle.stack.specs.declared.slots.Stack.{Stack}

@@ -13,13 +13,13 @@ use Rattle.isa.specs.declared.kinds.Arithmetic.{Arithmetic}
 use Rattle.plan.specs.declared.fault.MarkFault.{MarkFault}
 use Rattle.plan.specs.declared.fault.ReadFault.{ReadFault}
 use Rattle.plan.specs.declared.fault.ReadFault.the-variants as fault
-use Rattle.plan.specs.declared.mark.Bracket.{Bracket}
-use Rattle.plan.specs.declared.mark.Bracket.the-variants.{Round, Square}
+use Rattle.grammar.specs.declared.mark.Bracket.{Bracket}
+use Rattle.grammar.specs.declared.mark.Bracket.the-variants.{Round, Square}
 use Rattle.plan.specs.declared.mark.Fixed.{Fixed}
 use Rattle.plan.specs.declared.mark.Fixed.the-variants as wanted
-use Rattle.plan.specs.declared.mark.Mark.{Mark}
-use Rattle.plan.specs.declared.mark.Mark.the-variants as mark
-use Rattle.plan.specs.declared.mark.Placed.{Placed}
+use Rattle.grammar.specs.declared.mark.Mark.{Mark}
+use Rattle.grammar.specs.declared.mark.Mark.the-variants as mark
+use Rattle.grammar.specs.declared.mark.Placed.{Placed}
 use Rattle.plan.specs.declared.tree.NodeId.{NodeId}
 use Rattle.plan.specs.declared.reader.Reader.{Reader}
 use Rattle.plan.specs.declared.repeats.OpenRepeat.{OpenRepeat}

@@ -7,14 +7,14 @@ ghost use Rattle.plan.specs.Reading.{Room, Goes, Grew, Inside};
 use crate::fault::ReadFault;
 use crate::fault::ReadFromMark;
 use crate::limits::NESTING;
-use crate::mark::Bracket;
 use crate::mark::Fixed;
-use crate::mark::Mark;
 use crate::nesting::Nest;
 use crate::nesting::Nesting;
 use crate::reader::Reader;
 use crate::tree::Node;
 use crate::tree::NodeId;
+use grammar::mark::Bracket;
+use grammar::mark::Mark;
 use isa::kinds::Arithmetic;
 
 impl Reader {

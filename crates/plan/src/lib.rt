@@ -14,5 +14,4 @@ mod repeats;
 mod scan;
 pub mod tables;
 pub mod tree;
-pub mod variable;
 mod word;

@@ -12,13 +12,13 @@ use crate::fault::ReadFault;
 use crate::fault::ReadFromMark;
 use crate::limits::REPEATS;
 use crate::mark::Fixed;
-use crate::mark::Mark;
 use crate::nesting::Nesting;
 use crate::reader::Reader;
 use crate::repeats::OpenRepeat;
 use crate::tree::Expression;
 use crate::tree::Statement;
-use crate::variable::Variable;
+use grammar::mark::Mark;
+use grammar::variable::Variable;
 use stack::slots::Stack;
 
 impl Reader {

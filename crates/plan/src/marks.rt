@@ -1,7 +1,7 @@
 ghost use Prim.Native.Nat.{_≤_};
 ghost use Rattle.std.specs.Of.Vec.{vec-cap};
 use crate::fault::MarkFault;
-use crate::mark::Placed;
+use grammar::mark::Placed;
 
 // The marks of a text, and where they end: at the text's end, or at a strange mark.
 #[derive(Drop)]

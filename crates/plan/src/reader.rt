@@ -7,11 +7,11 @@ ghost use Rattle.plan.specs.Reading.{rest, first, tail, operator, wanted-next,
 use crate::fault::MarkFault;
 use crate::fault::ReadFault;
 use crate::fault::ReadFromMark;
-use crate::mark::Bracket;
 use crate::mark::Fixed;
-use crate::mark::Mark;
 use crate::marks::Marks;
 use crate::tables::Plan;
+use grammar::mark::Bracket;
+use grammar::mark::Mark;
 use isa::kinds::Arithmetic;
 
 // Reads texts into its own tables, which are made once.

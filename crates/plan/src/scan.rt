@@ -6,12 +6,12 @@ ghost use lib.ListN.{length};
 ghost use Rattle.std.specs.Of.Vec.{vec-items, vec-len};
 ghost use Rattle.std.specs.Vec.{made};
 use crate::fault::MarkFault;
-use crate::mark::Mark;
-use crate::mark::Placed;
 use crate::marks::Marks;
 use crate::word::Kind;
 use crate::word::kind_of;
 use crate::word::spelled;
+use grammar::mark::Mark;
+use grammar::mark::Placed;
 use std::alloc::AllocError;
 use std::alloc::Global;
 

@@ -2,9 +2,9 @@
 ghost use mathlib.Core.Path.{_≡_};
 ghost use Prim.Native.Nat.{_<_};
 ghost use lib.ListN.{length};
-use crate::mark::Bracket;
-use crate::mark::Mark;
-use crate::variable::Variable;
+use grammar::mark::Bracket;
+use grammar::mark::Mark;
+use grammar::variable::Variable;
 use isa::kinds::Arithmetic;
 
 // What the bytes of a mark are. Words and numbers are longest runs of capitals and digits.
