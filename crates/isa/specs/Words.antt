@@ -37,7 +37,8 @@ operationOf (Branch Green a b) = 13
 operationOf (Branch Blue a b) = 14
 operationOf Halt = 15
 
-abbrev packed : ℕ → ℕ → ℕ → ℕ → ℕ
+-- one word of an operation and three fields
+abbrev pub packed : ℕ → ℕ → ℕ → ℕ → ℕ
 packed op a b c = op * 2 ^ 24 + a * 2 ^ 16 + b * 2 ^ 8 + c
 
 -- the first word of an instruction; a field that it does not use is 0

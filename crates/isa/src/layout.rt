@@ -182,7 +182,10 @@ pub fn examine(words: &[u32]) -> Result<Shape, LayoutFault>
             return Err(LayoutFault::Block(block));
         }
     }
-    Ok(Shape { instructions, blocks })
+    Ok(Shape {
+        instructions,
+        blocks,
+    })
 }
 
 // What the card of a block says of a register.
@@ -202,5 +205,8 @@ pub fn block_at(words: &[u32], instructions: u32, block: u32) -> Block
     for register in 0..32u8 {
         card[register as usize] = slot_at(words, instructions, block, register);
     }
-    Block { start: start_at(words, instructions, block), card }
+    Block {
+        start: start_at(words, instructions, block),
+        card,
+    }
 }

@@ -13,10 +13,9 @@ pub loop-register-again : need.loop-register-again
 loop-register-again c =
     let i = c .loop-register .register in
     let l = c .loop-register .card in
-    let low : i < length l = omega (arith, c .loop-register .inv .0) in
-    (
+    let low : i < length l = omega (arith, c .loop-register .inv .0) in (
       simp length-set (c .loop-register .inv .0),
       below-more _ _
-      (λ k h t. let ne : k ≢ i = omega arith in ap slotByte (getD-set-other l i k _ _ ne) ∙ c .loop-register .inv .1 k h t)
-      (λ t. ap slotByte (getD-set-same l i _ _ low) ∙ c .slot-at .ensures .read t),
+          (λ k h t. let ne : k ≢ i = omega arith in ap slotByte (getD-set-other l i k _ _ ne) ∙ c .loop-register .inv .1 k h t)
+          (λ t. ap slotByte (getD-set-same l i _ _ low) ∙ c .slot-at .ensures .read t),
     )

@@ -10,4 +10,4 @@ abbrev pub Inv-loop-register : given.InvT-loop-register
 Inv-loop-register l =
     (length (l .card) ≡ 32)
     × ((k : ℕ) → k < l .register → slotted (cardByte (l .words) (l .instructions) (l .block) k) ≡ true
-        → slotByte (getD (l .card) k Free) ≡ cardByte (l .words) (l .instructions) (l .block) k)
+    → slotByte (getD (l .card) k Free) ≡ cardByte (l .words) (l .instructions) (l .block) k)
