@@ -17,8 +17,12 @@ impl Twin {
         ensures low { λ r. ⌜ r .number < 32 ⌝ }
     {
         match colour {
-            Colour::Green => Register { number: 2 * self.number },
-            Colour::Blue => Register { number: 2 * self.number + 1 },
+            Colour::Green => Register {
+                number: 2 * self.number,
+            },
+            Colour::Blue => Register {
+                number: 2 * self.number + 1,
+            },
         }
     }
 }
@@ -29,14 +33,22 @@ fn set(colour: Colour, to: Register, source: Source) -> Instruction
     ensures { λ r. ⌜ r .kind ≡ setKind colour to source ⌝ }
 {
     match source {
-        Source::Number(n) => Instruction { kind: Kind::Move(colour, to, n) },
-        Source::Copy(from) => Instruction { kind: Kind::Copy(to, from.register(colour)) },
+        Source::Number(n) => Instruction {
+            kind: Kind::Move(colour, to, n),
+        },
+        Source::Copy(from) => Instruction {
+            kind: Kind::Copy(to, from.register(colour)),
+        },
         Source::Operation(op, left, right) => {
             let left = left.register(colour);
             let right = right.register(colour);
-            Instruction { kind: Kind::Arith(op, to, left, right) }
+            Instruction {
+                kind: Kind::Arith(op, to, left, right),
+            }
         }
-        Source::Cell(address) => Instruction { kind: Kind::Load(colour, to, address.register(colour)) },
+        Source::Cell(address) => Instruction {
+            kind: Kind::Load(colour, to, address.register(colour)),
+        },
     }
 }
 
@@ -49,13 +61,19 @@ pub fn half(colour: Colour, single: Single) -> Instruction
         Single::Store(address, word) => {
             let address = address.register(colour);
             let word = word.register(colour);
-            Instruction { kind: Kind::Store(colour, address, word) }
+            Instruction {
+                kind: Kind::Store(colour, address, word),
+            }
         }
-        Single::Jump(target) => Instruction { kind: Kind::Jump(colour, target.register(colour)) },
+        Single::Jump(target) => Instruction {
+            kind: Kind::Jump(colour, target.register(colour)),
+        },
         Single::Branch(condition, target) => {
             let condition = condition.register(colour);
             let target = target.register(colour);
-            Instruction { kind: Kind::Branch(colour, condition, target) }
+            Instruction {
+                kind: Kind::Branch(colour, condition, target),
+            }
         }
     }
 }

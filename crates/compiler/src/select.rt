@@ -29,7 +29,9 @@ fn value_twin() -> Twin {
 // The twin behind a twin that holds a value; the last one is followed by itself.
 fn behind(twin: Twin) -> Twin {
     if twin.number < 15 {
-        Twin { number: twin.number + 1 }
+        Twin {
+            number: twin.number + 1,
+        }
     } else {
         twin
     }
@@ -37,13 +39,18 @@ fn behind(twin: Twin) -> Twin {
 
 // The twin of the counter of a REPEAT that so many others are open around, at most three.
 fn counter(open: u8) -> Twin {
-    Twin { number: COUNTERS + open % 4 }
+    Twin {
+        number: COUNTERS + open % 4,
+    }
 }
 
 impl Lines {
     pub fn new(heap: Global) -> Result<Lines, AllocError> {
         let lines = Vec::with_capacity(heap, 512)?;
-        Ok(Lines { lines, entry: Entry::Inside })
+        Ok(Lines {
+            lines,
+            entry: Entry::Inside,
+        })
     }
 
     pub fn clear(&mut self) {
@@ -123,7 +130,10 @@ impl Lines {
         self.set(counter, Source::Copy(value));
         self.entry = Entry::Start(counter.number + 1);
         let head = 2 * self.lines.len() as u32;
-        self.set(value, Source::Number(head.saturating_add(body).saturating_add(12)));
+        self.set(
+            value,
+            Source::Number(head.saturating_add(body).saturating_add(12)),
+        );
         self.add(Single::Branch(counter, value));
     }
 
@@ -141,12 +151,23 @@ impl Lines {
     }
 
     // The code of one statement, so many REPEATs being open; answers how many are open behind it.
-    fn statement(&mut self, slots: &mut [Half], nodes: &[Node], statement: Statement, open: u8) -> u8 {
+    fn statement(
+        &mut self,
+        slots: &mut [Half],
+        nodes: &[Node],
+        statement: Statement,
+        open: u8,
+    ) -> u8 {
         let value = value_twin();
         match statement {
             Statement::Let(variable, e) => {
                 self.expression(slots, nodes, e.root, value);
-                self.set(Twin { number: variable.number }, Source::Copy(value));
+                self.set(
+                    Twin {
+                        number: variable.number,
+                    },
+                    Source::Copy(value),
+                );
                 open
             }
             Statement::Put(address, word) => {

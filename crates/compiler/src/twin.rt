@@ -12,4 +12,5 @@ pub struct Twin {
 // Twins 0 to 5 are the variables A to F, 6 to 9 the counters of the open REPEATs, and 10 to 15 hold
 // values in between.
 pub const COUNTERS: u8 = 6;
+
 pub const VALUES: u8 = 10;

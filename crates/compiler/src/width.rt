@@ -16,7 +16,9 @@ fn width(widths: &[u32], node: Node) -> u32
         Node::Number(_) => 1,
         Node::Variable(_) => 1,
         Node::Cell(address) => widths[address.index],
-        Node::Binary(_, left, right) => widths[left.index].max(widths[right.index].saturating_add(1)),
+        Node::Binary(_, left, right) => widths[left.index].max(widths[right.index].saturating_add(
+            1,
+        )),
     }
 }
 

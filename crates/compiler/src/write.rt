@@ -1,7 +1,8 @@
 // The words of a module.
 ghost use mathlib.Core.Path.{_≡_};
-ghost use Prim.Native.Nat.{ℕ, _+_, _*_, _<_, _≤_};
+ghost use Prim.Native.Nat.{ℕ, _+_, _*_, _^_, _<_, _≤_};
 ghost use lib.ListN.{length, getD};
+ghost use Rattle.compiler.specs.Cards.{twinBytes};
 use crate::double::half;
 use crate::line::Entry;
 use crate::line::Line;
@@ -27,21 +28,30 @@ fn put_instruction(out: &mut [u32], place: u32, instruction: Instruction) {
 
 // What a card that gives the first so many twins a variable each says of a twin: the variable with
 // the twin's number, in both colours. As the bytes of its two registers, in the low half of a word.
-fn twin_bytes(twins: u8, twin: u8) -> u32 {
-    if twin < twins && twin < 16 {
+fn twin_bytes(twins: u8, twin: u8) -> u32
+    ensures { λ r. ⌜ r ≡ twinBytes twins twin ⌝ }
+{
+    if twin < twins {
         (twin as u32 + 1) * 0x100 + (twin as u32 + 129)
     } else {
         0
     }
 }
 
-// A block's start and card; answers how many blocks there are then.
+// The k-th word of such a card, for twins 2k and 2k + 1.
+fn card_word(twins: u8, k: u8) -> u32
+    requires { ⌜ k < 8 ⌝ }
+    ensures { λ r. ⌜ r ≡ twinBytes twins (2 * k) * 2 ^ 16 + twinBytes twins (2 * k + 1) ⌝ }
+{
+    twin_bytes(twins, 2 * k) * 0x1_0000 + twin_bytes(twins, 2 * k + 1)
+}
+
+// A block's start and card.
 fn put_block(out: &mut [u32], instructions: u32, block: u32, start: u32, twins: u8) {
     let at = 2 + 2 * instructions as usize + 9 * block as usize;
     put(out, at, start);
     for k in 0..8u8 {
-        let word = twin_bytes(twins, 2 * k) * 0x1_0000 + twin_bytes(twins, 2 * k + 1);
-        put(out, at + 1 + k as usize, word);
+        put(out, at + 1 + k as usize, card_word(twins, k));
     }
 }
 
