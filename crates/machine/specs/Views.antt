@@ -1,0 +1,42 @@
+-- What the code's values stand for in the definition of the machine.
+use mathlib.Core.List.{List, map}
+use mathlib.Core.Path.{_≡_}
+use Prim.Native.Nat.{ℕ, _+_}
+use lib.ListN.{getD}
+use Rattle.std.specs.Of.Vec.{vec-items}
+use Rattle.isa.specs.declared.kinds.Kind.{Kind}
+use Rattle.isa.specs.declared.instruction.Instruction.{Instruction}
+use Rattle.machine.specs.declared.latches.Latches.{Latches}
+use Rattle.machine.specs.declared.code.Code.{Code}
+use Rattle.machine.specs.declared.run.Run.{Run as Held}
+use Rattle.machine.specs.Queued.{queued}
+use Rattle.machine.specs.declared.ends.End.{End}
+use Rattle.machine.specs.Machine.{State, Outcome, Run, settled}
+
+-- the state with these latches, over these cells, after this number of stores
+abbrev pub latched : Latches → (ℕ → ℕ) → ℕ → State
+latched l cells stores = record {
+  regs = λ r. getD (l .registers) r 0;
+  green = l .green;
+  blue = l .blue;
+  destination = l .destination;
+  queue = queued (l .queue);
+  cells = cells;
+  stores = stores;
+}
+
+-- a run over these cells
+abbrev pub run : Held → (ℕ → ℕ) → Run
+run x cells = record { state = latched (x .latches) cells (x .stores); end = x .end; steps = x .steps }
+
+-- the instructions
+abbrev pub kinds : Code → List Kind
+kinds c = map (λ (i : Instruction). i .kind) (vec-items (c .instructions))
+
+-- over any cells, and after any number of stores, an instruction turns the latches l into m and ends so
+abbrev pub Turns : Latches → Latches → End → (State → Outcome) → Type 0
+Turns l m e does = (cells : ℕ → ℕ) (stores : ℕ) → (e, latched m cells stores) ≡ settled (latched l cells stores) (does (latched l cells stores))
+
+-- both counters raised by 1, and this destination
+abbrev pub raised : Latches → ℕ → Latches
+raised l d = record { registers = l .registers; green = l .green + 1; blue = l .blue + 1; destination = d; queue = l .queue }
