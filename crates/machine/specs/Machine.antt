@@ -72,9 +72,9 @@ abbrev pub zero? : ℕ → Bool
 zero? n = eqb n 0
 
 -- what a load of each colour sees: blue the cells, green the queued pairs laid over them
-abbrev pub seen : Colour → State → ℕ → ℕ
-seen Green s a = overlay (s .queue) (s .cells) a
-seen Blue s a = s .cells a
+abbrev pub seen : Colour → List Pair → (ℕ → ℕ) → ℕ → ℕ
+seen Green queue cells a = overlay queue cells a
+seen Blue queue cells a = cells a
 
 -- green's store queues a pair, of which there may be 16
 abbrev pub enqueue : State → ℕ → ℕ → Outcome
@@ -120,7 +120,7 @@ abbrev pub exec : (ℕ → Bool) → Kind → State → Outcome
 exec w (Move c a n) s = put s a n
 exec w (Copy a b) s = put s a (reg s b)
 exec w (Arith o a b c) s = put s a (alu o (reg s b) (reg s c))
-exec w (Load c a b) s = put s a (seen c s (reg s b))
+exec w (Load c a b) s = put s a (seen c (s .queue) (s .cells) (reg s b))
 exec w (Store c a b) s = store w c s (reg s a) (reg s b)
 exec w (Jump c a) s = jump c s (reg s a)
 exec w (Branch c a b) s = branch c s (reg s a) (reg s b)

@@ -5,11 +5,12 @@ use Prim.Native.Nat.{ℕ, _+_}
 use lib.ListN.{getD}
 use Rattle.std.specs.Of.Vec.{vec-items}
 use Rattle.isa.specs.declared.kinds.Kind.{Kind}
+use Rattle.memory.specs.Cells.{Cells}
 use Rattle.isa.specs.declared.instruction.Instruction.{Instruction}
 use Rattle.machine.specs.declared.latches.Latches.{Latches}
 use Rattle.machine.specs.declared.code.Code.{Code}
 use Rattle.machine.specs.declared.run.Run.{Run as Held}
-use Rattle.machine.specs.Queued.{queued}
+pub use Rattle.machine.specs.Queued.{queued}
 use Rattle.machine.specs.declared.ends.End.{End}
 use Rattle.machine.specs.Machine.{State, Outcome, Run, settled}
 
@@ -25,9 +26,13 @@ latched l cells stores = record {
   stores = stores;
 }
 
+-- the state of a run over these cells
+abbrev pub stateOf : Held → Cells → State
+stateOf x c = latched (x .latches) (c .word) (x .stores)
+
 -- a run over these cells
-abbrev pub run : Held → (ℕ → ℕ) → Run
-run x cells = record { state = latched (x .latches) cells (x .stores); end = x .end; steps = x .steps }
+abbrev pub runOf : Held → Cells → Run
+runOf x c = record { state = stateOf x c; end = x .end; steps = x .steps }
 
 -- the instructions
 abbrev pub kinds : Code → List Kind
@@ -37,6 +42,6 @@ kinds c = map (λ (i : Instruction). i .kind) (vec-items (c .instructions))
 abbrev pub Turns : Latches → Latches → End → (State → Outcome) → Type 0
 Turns l m e does = (cells : ℕ → ℕ) (stores : ℕ) → (e, latched m cells stores) ≡ settled (latched l cells stores) (does (latched l cells stores))
 
--- both counters raised by 1, and this destination
-abbrev pub raised : Latches → ℕ → Latches
-raised l d = record { registers = l .registers; green = l .green + 1; blue = l .blue + 1; destination = d; queue = l .queue }
+-- both counters raised by 1
+abbrev pub raised : Latches → Latches
+raised l = record { registers = l .registers; green = l .green + 1; blue = l .blue + 1; destination = l .destination; queue = l .queue }

@@ -1,9 +1,10 @@
 // What the machine holds besides its cells, and what the instructions that touch no cell do to it.
 ghost use mathlib.Core.Path.{_≡_};
 ghost use mathlib.Core.Bool.{true, false};
-ghost use Prim.Native.Nat.{ℕ, _<_};
+ghost use Prim.Native.Nat.{ℕ, _+_, _<_};
+ghost use Rattle.memory.specs.Cells.{replaced};
 ghost use lib.ListN.{getD};
-ghost use Rattle.machine.specs.Machine.{begin, put, enqueue, aim, land, jump, branch, halt};
+ghost use Rattle.machine.specs.Machine.{begin, enqueue, aim, land, jump, branch, halt};
 ghost use Rattle.machine.specs.Views.{latched, raised, Turns};
 use crate::ends::End;
 use crate::ends::Report;
@@ -43,13 +44,12 @@ impl Latches {
         self.registers[register.number as usize]
     }
 
-    // Goes on to the next instruction, with this destination.
-    fn fall(&mut self, destination: u32)
+    // Goes on to the next instruction.
+    pub(crate) fn fall(&mut self)
         requires green { ⌜ now self .green < 1024 ⌝ }
         requires blue { ⌜ now self .blue < 1024 ⌝ }
-        ensures { λ _. ⌜ now (self .exit) ≡ raised (now (self .entry)) destination ⌝ }
+        ensures { λ _. ⌜ now (self .exit) ≡ raised (now (self .entry)) ⌝ }
     {
-        self.destination = destination;
         self.green += 1;
         self.blue += 1;
     }
@@ -59,10 +59,15 @@ impl Latches {
         requires low { ⌜ register .number < 32 ⌝ }
         requires green { ⌜ now self .green < 1024 ⌝ }
         requires blue { ⌜ now self .blue < 1024 ⌝ }
-        ensures { λ r. ⌜ Turns (now (self .entry)) (now (self .exit)) r (λ s. put s register word) ⌝ }
+        ensures end { λ r. ⌜ r ≡ End.Going ⌝ }
+        ensures registers { λ _. ⌜ ((r : ℕ) → getD (now (self .exit) .registers) r 0 ≡ replaced (λ k. getD (now (self .entry) .registers) k 0) (register .number) word r) ⌝ }
+        ensures green { λ _. ⌜ now (self .exit) .green ≡ now (self .entry) .green + 1 ⌝ }
+        ensures blue { λ _. ⌜ now (self .exit) .blue ≡ now (self .entry) .blue + 1 ⌝ }
+        ensures destination { λ _. ⌜ now (self .exit) .destination ≡ now (self .entry) .destination ⌝ }
+        ensures queue { λ _. ⌜ now (self .exit) .queue ≡ now (self .entry) .queue ⌝ }
     {
         self.registers[register.number as usize] = word;
-        self.fall(self.destination);
+        self.fall();
         End::Going
     }
 
@@ -75,7 +80,7 @@ impl Latches {
         if !self.queue.push(Pair { address, word }) {
             return End::Reported(Report::Queue);
         }
-        self.fall(self.destination);
+        self.fall();
         End::Going
     }
 
@@ -88,7 +93,8 @@ impl Latches {
         if self.destination != 0 {
             return End::Reported(Report::Destination);
         }
-        self.fall(to);
+        self.destination = to;
+        self.fall();
         End::Going
     }
 

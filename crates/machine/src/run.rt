@@ -3,6 +3,8 @@ ghost use Prim.Native.Nat.{_≤_};
 use crate::ends::End;
 use crate::latches::Latches;
 
+pub mod steps;
+
 // The latches, how the run stands, and the numbers of its steps and of the stores that it made.
 #[derive(Clone, Copy)]
 pub struct Run {
