@@ -64,10 +64,9 @@ encoded w imm h =
     let r = repacked op low (named (uses op 8) (fieldA w)) (named (uses op 4) (fieldB w)) (named (uses op 2) (fieldC w)) (cond (uses op 1) imm 0) in
     let a = field-kept (uses op 8) (fieldA w) (h₁ .0) in
     let b = field-kept (uses op 4) (fieldB w) (h₂ .0) in
-    let c = field-kept (uses op 2) (fieldC w) (h₃ .0) in
-    (
+    let c = field-kept (uses op 2) (fieldC w) (h₃ .0) in (
       ap firstWord k ∙ r .0 ∙ ap (λ (x : ℕ). packed op x (kept (uses op 4) (named (uses op 4) (fieldB w) .number)) (kept (uses op 2) (named (uses op 2) (fieldC w) .number))) a
-      ∙ ap (λ (x : ℕ). packed op (fieldA w) x (kept (uses op 2) (named (uses op 2) (fieldC w) .number))) b
-      ∙ ap (λ (x : ℕ). packed op (fieldA w) (fieldB w) x) c ∙ whole w,
+          ∙ ap (λ (x : ℕ). packed op (fieldA w) x (kept (uses op 2) (named (uses op 2) (fieldC w) .number))) b
+          ∙ ap (λ (x : ℕ). packed op (fieldA w) (fieldB w) x) c ∙ whole w,
       ap secondWord k ∙ r .1 ∙ imm-kept (uses op 1) imm (h₃ .1),
     )
