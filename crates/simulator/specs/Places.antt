@@ -2,7 +2,8 @@
 use mathlib.Core.Bool.{cond}
 use Prim.Native.Nat.{ℕ, _-_, _<_}
 use lib.Dec.{eqb, ltb}
-use lib.ListN.{getD, set}
+use lib.ListN.{set}
+use mathlib.Core.List.{List}
 use Rattle.std.specs.declared.option.Option.{Option}
 use Rattle.std.specs.declared.option.Option.the-variants.{Some, None}
 use Rattle.std.specs.Options.{mapped}
@@ -32,15 +33,19 @@ latch Destination s = Some (s .destination)
 latch (PairAddress i) s = mapped (λ (p : Pair). p .address) (nth (s .queue) i)
 latch (PairWord i) s = mapped (λ (p : Pair). p .word) (nth (s .queue) i)
 
-abbrev none : Pair
-none = record { address = 0; word = 0 }
+-- queued pair i changed, if there is one
+abbrev pub changedAt : Option Pair → (Pair → Pair) → ℕ → List Pair → List Pair
+changedAt None f i q = q
+changedAt (Some p) f i q = set q i (f p)
 
--- the state with v as the address, or as the word, of queued pair i
-abbrev pub addressed : ℕ → ℕ → State → State
-addressed i v s = withQueue s (set (s .queue) i (record { address = v; word = getD (s .queue) i none .word }))
+abbrev pub changed : (Pair → Pair) → ℕ → List Pair → List Pair
+changed f i q = changedAt (nth q i) f i q
 
-abbrev pub worded : ℕ → ℕ → State → State
-worded i v s = withQueue s (set (s .queue) i (record { address = getD (s .queue) i none .address; word = v }))
+abbrev pub withAddress : ℕ → Pair → Pair
+withAddress v p = record { address = v; word = p .word }
+
+abbrev pub withWord : ℕ → Pair → Pair
+withWord v p = record { address = p .address; word = v }
 
 -- the state with v in the latch at a place
 abbrev pub struck : Place → ℕ → State → State
@@ -48,8 +53,8 @@ struck (Register r) v s = withRegs s (replaced (s .regs) r v)
 struck CounterGreen v s = withPlace s v (s .blue) (s .destination)
 struck CounterBlue v s = withPlace s (s .green) v (s .destination)
 struck Destination v s = withPlace s (s .green) (s .blue) v
-struck (PairAddress i) v s = addressed i v s
-struck (PairWord i) v s = worded i v s
+struck (PairAddress i) v s = withQueue s (changed (withAddress v) i (s .queue))
+struck (PairWord i) v s = withQueue s (changed (withWord v) i (s .queue))
 
 -- a register that there is
 abbrev pub Low : Place → Type 0

@@ -4,11 +4,13 @@ ghost use Prim.Native.Nat.{ℕ, _<_};
 ghost use lib.ListN.{length};
 ghost use Rattle.std.specs.Options.{Cases};
 ghost use Rattle.std.specs.declared.option.Option.the-variants.{Some, None};
+ghost use Rattle.machine.specs.Queued.{queued};
 ghost use Rattle.machine.specs.Views.{latched};
-ghost use Rattle.simulator.specs.Places.{Low, addressed, latch, struck, worded};
+ghost use Rattle.simulator.specs.Places.{Low, changed, latch, struck, withAddress, withWord};
 use crate::place::Place;
 use machine::latches::Latches;
 use machine::queue::Pair;
+use machine::queue::Queue;
 
 // The latch at a place, if there is one.
 pub(crate) fn read(latches: &Latches, place: Place) -> Option<u32>
@@ -41,23 +43,26 @@ pub(crate) fn write(latches: &mut Latches, place: Place, value: u32)
         Place::CounterGreen => latches.green = value,
         Place::CounterBlue => latches.blue = value,
         Place::Destination => latches.destination = value,
-        Place::PairAddress(i) => write_address(latches, i as usize, value),
-        Place::PairWord(i) => write_word(latches, i as usize, value),
+        Place::PairAddress(i) => latches.queue = with_address(latches.queue, i as usize, value),
+        Place::PairWord(i) => latches.queue = with_word(latches.queue, i as usize, value),
     }
 }
 
-fn write_address(latches: &mut Latches, at: usize, value: u32)
-    ensures { λ _. ⌜ ((cells : ℕ → ℕ) (stores : ℕ) → latched (now (latches .exit)) cells stores ≡ addressed at value (latched (now (latches .entry)) cells stores)) ⌝ }
+// The queue with another address, or another word, in pair `at`, if there is such a pair.
+fn with_address(mut queue: Queue, at: usize, address: u32) -> Queue
+    ensures { λ r. ⌜ queued r ≡ changed (withAddress address) at (queued queue) ⌝ }
 {
-    if let Some(pair) = latches.queue.get(at) {
-        latches.queue.set(at, Pair { address: value, word: pair.word });
+    if let Some(pair) = queue.get(at) {
+        queue.set(at, Pair { address, word: pair.word });
     }
+    queue
 }
 
-fn write_word(latches: &mut Latches, at: usize, value: u32)
-    ensures { λ _. ⌜ ((cells : ℕ → ℕ) (stores : ℕ) → latched (now (latches .exit)) cells stores ≡ worded at value (latched (now (latches .entry)) cells stores)) ⌝ }
+fn with_word(mut queue: Queue, at: usize, word: u32) -> Queue
+    ensures { λ r. ⌜ queued r ≡ changed (withWord word) at (queued queue) ⌝ }
 {
-    if let Some(pair) = latches.queue.get(at) {
-        latches.queue.set(at, Pair { address: pair.address, word: value });
+    if let Some(pair) = queue.get(at) {
+        queue.set(at, Pair { address: pair.address, word });
     }
+    queue
 }

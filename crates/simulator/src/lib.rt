@@ -1,3 +1,4 @@
 // The simulator: runs of checked code over any memory, with strikes on command.
+mod fill;
 mod latch;
 pub mod place;
