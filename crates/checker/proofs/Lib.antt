@@ -3,3 +3,4 @@ pub mod Views
 pub mod Meetings
 pub mod Entering
 pub mod Blocks
+pub mod Halting
