@@ -220,5 +220,5 @@ pub read-block : (ws : List ℕ) (good : every (word ws 1) (blockFits ws (word w
 read-block ws good n b B e h =
     let P : ℕ → Type 0 =
     λ m. B .start ≡ startAt ws m b → ((k : ℕ) → k < 32 → slotted (cardByte ws m b k) ≡ true → slotByte (getD (B .card) k free) ≡ cardByte ws m b k)
-        → B ≡ blockOf ws (word ws 0) b in
+    → B ≡ blockOf ws (word ws 0) b in
     subst P (sym e) (λ s c. block-back ws (word ws 0) b B s (λ k l. c k l (slots ws good b k h l)))

@@ -53,7 +53,13 @@ fn with_address(mut queue: Queue, at: usize, address: u32) -> Queue
     ensures { λ r. ⌜ queued r ≡ changed (withAddress address) at (queued queue) ⌝ }
 {
     if let Some(pair) = queue.get(at) {
-        queue.set(at, Pair { address, word: pair.word });
+        queue.set(
+            at,
+            Pair {
+                address,
+                word: pair.word,
+            },
+        );
     }
     queue
 }
@@ -62,7 +68,13 @@ fn with_word(mut queue: Queue, at: usize, word: u32) -> Queue
     ensures { λ r. ⌜ queued r ≡ changed (withWord word) at (queued queue) ⌝ }
 {
     if let Some(pair) = queue.get(at) {
-        queue.set(at, Pair { address: pair.address, word });
+        queue.set(
+            at,
+            Pair {
+                address: pair.address,
+                word,
+            },
+        );
     }
     queue
 }

@@ -2,3 +2,5 @@
 mod fill;
 mod latch;
 pub mod place;
+pub mod refusal;
+pub mod simulator;

@@ -35,7 +35,8 @@ impl Checker {
     {
         self.blocks.clear();
         for b in 0..shape.blocks {
-            self.blocks.push_reserved(block_at(words, shape.instructions, b));
+            self.blocks
+                .push_reserved(block_at(words, shape.instructions, b));
         }
     }
 }
