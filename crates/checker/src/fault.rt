@@ -3,7 +3,7 @@ ghost use mathlib.Core.Path.{_≡_};
 ghost use Rattle.checker.specs.Faults.{numberOf, placeOf, lifted};
 use isa::layout::LayoutFault;
 
-#[derive(Clone, Copy, Debug, PartialEq, Eq)]
+#[derive(Clone, Copy)]
 pub enum CheckFault {
     // Length, counts, operations or fields.
     Malformed,

@@ -10,6 +10,7 @@ use lib.ListN.{length, getD}
 use Rattle.std.specs.declared.option.Option.{Option}
 use Rattle.std.specs.declared.option.Option.the-variants.{Some, None}
 use Rattle.std.specs.declared.result.Result.{Result}
+use Rattle.std.specs.declared.result.Result.the-variants.{Ok, Err}
 use Rattle.std.specs.Iters.{counting}
 use Rattle.std.proofs.shelf.Counted.{length-map-counting, getD-map-counting}
 use Rattle.std.specs.Holes.{between}
@@ -288,3 +289,29 @@ all-kept L ws b h k p l =
     let e = edge-end ws b h in
     let z = length-map-counting (kindAt ws) 0 (word ws 0) in
     k p (omega arith)
+
+-- one block after another: the words `part` from `from` to `to` are block b, `bs` are the module's blocks, and the rules are kept before
+module _ (L : Limits) (ws : List ℕ) (laid : LaidOut ws) (b from to : ℕ) (part : List ℕ) (bs : List Block) (h : b < word ws 1) (f : from ≡ edge ws b) (t : to ≡ edge ws (b + 1))
+    (p : part ≡ between (2 + 2 * from) (2 + 2 * to) ws) (e : bs ≡ moduleOf ws .blocks) (before : (q : ℕ) → q < edge ws b → keptAt L (moduleOf ws) q ≡ true) where
+  here-lies : Lies ws b from to
+  here-lies = lies ws laid b from to h f t
+
+  here-cut : Cut ws b part
+  here-cut = let l = here-lies in cut-is ws b from to part h f t (omega arith) (l .within) p
+
+  -- the rules are kept before the next block
+  pub next-kept : BlockJudged L bs (behind bs (b + 1)) (cardAt bs b) (kindsOf part) (Ok tt) → (q : ℕ) → q < edge ws (b + 1) → keptAt L (moduleOf ws) q ≡ true
+  next-kept j = passes-more ws (laid .blocks) b part here-cut L before (judged-in L ws (laid .blocks) b bs (kindsOf part) (Ok tt) h e j)
+
+  -- this is the first rule that is broken
+  pub first-broken : (k : ℕ) → BlockJudged L bs (behind bs (b + 1)) (cardAt bs b) (kindsOf part) (Err k) → BreaksAt L (moduleOf ws) (from + k)
+  first-broken k j =
+      let P : ℕ → Type 0 = λ s. BreaksAt L (moduleOf ws) (s + k) in
+      subst P (sym (here-lies .start)) (breaks-here ws (laid .blocks) b part here-cut L before k (judged-in L ws (laid .blocks) b bs (kindsOf part) (Err k) h e j))
+
+  pub broken-low : (k : ℕ) → BlockJudged L bs (behind bs (b + 1)) (cardAt bs b) (kindsOf part) (Err k) → from + k < 1024
+  broken-low k j =
+      let x = first-broken k j .place in
+      let z = length-map-counting (kindAt ws) 0 (word ws 0) in
+      let w = few ws (laid .code) in
+      omega arith

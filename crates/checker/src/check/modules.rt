@@ -1,6 +1,6 @@
 // A module's blocks read and checked.
 ghost use mathlib.Core.Path.{_≡_};
-ghost use Prim.Native.Nat.{_+_, _*_, _<_, _≤_};
+ghost use Prim.Native.Nat.{_+_, _*_, _^_, _<_, _≤_};
 ghost use lib.ListN.{length};
 ghost use Rattle.std.specs.Holes.{between};
 ghost use Rattle.std.specs.Of.Vec.{vec-items, vec-len};
@@ -8,6 +8,7 @@ ghost use Rattle.isa.specs.Layout.{word, LaidOut};
 ghost use Rattle.rules.specs.Limits.{in-force};
 ghost use Rattle.rules.specs.Block.{behind, cardAt, BlockJudged};
 ghost use Rattle.rules.specs.Words.{edge as edgeOf, moduleOf, kindsOf};
+ghost use Rattle.checker.specs.declared.fault.CheckFault.the-variants.{Rule};
 ghost use Rattle.checker.specs.Passing.{Judged, Checked};
 use super::Checker;
 use crate::fault::CheckFault;
@@ -67,7 +68,7 @@ impl Checker {
             let from = edge(words, shape, b);
             let to = edge(words, shape, b + 1);
             if let Err(k) = self.check_part(b as usize, code(words, from, to)) {
-                return Err(CheckFault::Rule((from + k) as u32));
+                return Err(broken(from, k));
             }
         }
         Ok(())
@@ -103,6 +104,14 @@ fn edge(words: &[u32], shape: Shape, b: u32) -> usize
     } else {
         shape.instructions as usize
     }
+}
+
+// The fault of a block's k-th instruction, the block starting at this place.
+fn broken(from: usize, k: usize) -> CheckFault
+    requires { ⌜ from + k < 2 ^ 32 ⌝ }
+    ensures { λ r. ⌜ r ≡ Rule (from + k) ⌝ }
+{
+    CheckFault::Rule((from + k) as u32)
 }
 
 // The words of the instructions from one place to another.

@@ -8,13 +8,22 @@ use super::Pass;
 // One instruction, one block, the instruction halt, a block that starts at 0, and its card, all free.
 static HALT: [u32; 13] = [1, 1, 0x0f00_0000, 0, 0, 0, 0, 0, 0, 0, 0, 0, 0];
 
+// The words of the module of one halt.
+fn halt<'m>() -> &'m [u32]
+    ensures { λ r. ⌜ now r ≡ one-halt ⌝ }
+{
+    &HALT
+}
+
 impl<'m> Pass<'m> {
+    // A pass over the module of one halt.
     pub fn new() -> Pass<'m>
         ensures { λ r. ⌜ words-of r ≡ one-halt ⌝ }
     {
-        Pass { words: &HALT }
+        Pass { words: halt() }
     }
 
+    // The words that passed.
     pub fn words(&self) -> &'m [u32]
         ensures { λ r. ⌜ now r ≡ words-of (now (self .entry)) ⌝ }
     {
@@ -26,6 +35,6 @@ impl<'m> Pass<'m> {
         requires { ⌜ Passes in-force (now words) ⌝ }
         ensures { λ _. ⌜ words-of (now (self .exit)) ≡ now (words .entry) ⌝ }
     {
-        self.words = words;
+        *self = Pass { words };
     }
 }

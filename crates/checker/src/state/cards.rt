@@ -4,8 +4,10 @@ ghost use mathlib.Core.Bool.{true, false};
 ghost use Prim.Native.Nat.{_<_};
 ghost use lib.ListN.{length, getD};
 ghost use Rattle.std.specs.Options.{Cases as BySome};
+ghost use Rattle.rules.specs.Expressions.{same?};
 ghost use Rattle.rules.specs.Cards.{met?, entry, inside, start, starts?, enters?, Block};
 ghost use Rattle.checker.specs.Meeting.{meetOne?, seenNext, seenIn, FirstBelow};
+ghost use Rattle.checker.specs.Trees.{at};
 ghost use Rattle.checker.specs.View.{view, known, count, noted};
 use super::State;
 use crate::node::Id;
@@ -14,6 +16,15 @@ use isa::card::Slot;
 use isa::kinds::Register;
 
 impl State {
+    // Whether two registers with one variable may have these expressions: they are the same.
+    fn agree(&self, x: Id, y: Id) -> bool
+        requires left { ⌜ x .index < count (now self) ⌝ }
+        requires right { ⌜ y .index < count (now self) ⌝ }
+        ensures { λ b. ⌜ b ≡ same? (at (known (now (self .entry))) x) (at (known (now (self .entry))) y) ⌝ }
+    {
+        self.table.same(x, y)
+    }
+
     // Meets a card at one register; `first` has the first expression of each variable.
     fn meet(&self, first: &mut [Option<Id>; 32], slot: Slot, r: Register) -> bool
         requires lowr { ⌜ r .number < 32 ⌝ }
@@ -30,7 +41,7 @@ impl State {
         };
         let at = v.number as usize;
         match first[at] {
-            Some(y) => self.table.same(x, y),
+            Some(y) => self.agree(x, y),
             None => {
                 first[at] = Some(x);
                 true

@@ -1,18 +1,16 @@
 use borrow.Author.Needs.{needs}
 use mathlib.Core.Path.{_≡_, ap, sym, subst, _∙_}
-use Prim.Native.Nat.{ℕ, _<_, _≤_, _+_, _*_}
+use Prim.Native.Nat.{_<_, _≤_, _+_, _*_}
 use native.Mathlib.Omega.{arith}
 use lib.ListN.{length}
 use Rattle.std.specs.Of.Vec.{vec-items}
-use Rattle.std.specs.declared.result.Result.the-variants.{Ok, Err}
 use Rattle.std.proofs.shelf.Counted.{length-map-counting}
 use Rattle.std.proofs.shelf.Edits.{length-between}
-use Rattle.isa.specs.Layout.{word, kindAt}
+use Rattle.isa.specs.Layout.{word}
 use Rattle.rules.specs.Limits.{in-force}
-use Rattle.rules.specs.Words.{blockOf, kindsOf, moduleOf}
-use Rattle.rules.specs.Module.{BreaksAt}
-use Rattle.rules.proofs.Layouts.{few}
-use Rattle.rules.proofs.Parts.{lies, cut-is, judged-in, passes-more, breaks-here, edge-first, all-kept}
+use Rattle.rules.specs.Words.{blockOf}
+use Rattle.rules.proofs.Parts.{lies, next-kept, first-broken, broken-low, edge-first, all-kept}
+use Rattle.checker.specs.Faults.{Faulty}
 use Rattle.checker.proofs.check.Checker.check_blocks.Needs as need
 
 pub loop-b-holds : need.loop-b-holds
@@ -35,46 +33,32 @@ check-part-requires c κs =
     let v = c .loop-b .self .blocks .ok .0 in
     record { there = omega arith; few = omega arith }
 
--- the block's first broken rule is the module's
-found : (c : need.In-Err) → BreaksAt in-force (moduleOf (c .args .words .now)) (c .edge-from .result + c .in-Err .k)
-found c =
-    let ws = c .args .words .now in
-    let b = c .loop-b .b in
-    let low : b < word ws 1 = omega arith in
-    let l = lies ws (c .pre .laid) b _ _ low (c .edge-from .ensures) (c .edge-to .ensures) in
-    let cut = cut-is ws b (c .edge-from .result) (c .edge-to .result) (c .code .result .now) low (c .edge-from .ensures) (c .edge-to .ensures) (omega arith) (l .within) (c .code .ensures) in
-    let good = c .pre .laid .blocks in
-    let j = judged-in in-force ws good b (vec-items (c .loop-b .self .blocks)) (kindsOf (c .code .result .now)) (Err (c .in-Err .k)) low (c .loop-b .inv .1) (c .in-Err .ensures tt .answer) in
-    let P : ℕ → Type 0 = λ s. BreaksAt in-force (moduleOf ws) (s + c .in-Err .k) in
-    subst P (sym (l .start)) (breaks-here ws good b (c .code .result .now) cut in-force (c .loop-b .inv .0) (c .in-Err .k) j)
-
-small : (c : need.In-Err) → c .edge-from .result + c .in-Err .k < 1024
-small c =
-    let ws = c .args .words .now in
-    let p = found c .place in
-    let z = length-map-counting (kindAt ws) 0 (word ws 0) in
-    let w = few ws (c .pre .laid .code) in
-    omega arith
-
-pub add-result : need.add-result
-add-result c = let k = small c in omega arith
-
-pub cast-result : need.cast-result
-cast-result c = let k = small c in omega arith
-
 pub loop-b-again : need.loop-b-again
 loop-b-again c =
     let ws = c .args .words .now in
-    let b = c .loop-b .b in
-    let low : b < word ws 1 = omega arith in
-    let l = lies ws (c .pre .laid) b _ _ low (c .edge-from .ensures) (c .edge-to .ensures) in
-    let cut = cut-is ws b (c .edge-from .result) (c .edge-to .result) (c .code .result .now) low (c .edge-from .ensures) (c .edge-to .ensures) (omega arith) (l .within) (c .code .ensures) in
-    let good = c .pre .laid .blocks in
-    let j = judged-in in-force ws good b (vec-items (c .loop-b .self .blocks)) (kindsOf (c .code .result .now)) (Ok tt) low (c .loop-b .inv .1) (c .in-rest .ensures tt .answer) in
-    (passes-more ws good b (c .code .result .now) cut in-force (c .loop-b .inv .0) j, ap vec-items (c .check-part .ensures .blocks) ∙ c .loop-b .inv .1)
+    let low : c .loop-b .b < word ws 1 = omega arith in (
+      next-kept in-force ws (c .pre .laid) (c .loop-b .b) _ _ (c .code .result .now) (vec-items (c .loop-b .self .blocks)) low (c .edge-from .ensures) (c .edge-to .ensures) (c .code .ensures)
+          (c .loop-b .inv .1) (c .loop-b .inv .0) (c .in-rest .ensures tt .answer),
+      ap vec-items (c .check-part .ensures .blocks) ∙ c .loop-b .inv .1,
+    )
+
+pub broken-requires : need.broken-requires
+broken-requires c κs =
+    let ws = c .args .words .now in
+    let low : c .loop-b .b < word ws 1 = omega arith in
+    let k =
+    broken-low in-force ws (c .pre .laid) (c .loop-b .b) _ _ (c .code .result .now) (vec-items (c .loop-b .self .blocks)) low (c .edge-from .ensures) (c .edge-to .ensures) (c .code .ensures)
+    (c .loop-b .inv .1) (c .loop-b .inv .0) (c .in-Err .k) (c .in-Err .ensures tt .answer) in
+    omega arith
 
 pub returns-in-Err : need.returns-in-Err
-returns-in-Err c = (c .pre .laid, found c)
+returns-in-Err c =
+    let ws = c .args .words .now in
+    let low : c .loop-b .b < word ws 1 = omega arith in
+    let b =
+    first-broken in-force ws (c .pre .laid) (c .loop-b .b) _ _ (c .code .result .now) (vec-items (c .loop-b .self .blocks)) low (c .edge-from .ensures) (c .edge-to .ensures) (c .code .ensures)
+    (c .loop-b .inv .1) (c .loop-b .inv .0) (c .in-Err .k) (c .in-Err .ensures tt .answer) in
+    subst (Faulty ws) (sym (c .broken .ensures)) (c .pre .laid, b)
 
 pub returns : need.returns
 returns c =

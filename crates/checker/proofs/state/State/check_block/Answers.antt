@@ -20,7 +20,7 @@ pub loop-i-again : need.loop-i-again
 loop-i-again c =
     let p = c .if-not-place .ensures tt in
     let ws = c .args .part .now in
-    let x = kind-at ws (c .loop-i .i) _ (c .loop-i-test .taken) (c .decode-instruction .ensures) in
+    let x = kind-at ws (c .loop-i .i) _ (c .loop-i-test .taken) (c .decode-instruction .ensures .value) in
     let v = c .loop-i .inv .0 in (
       place-goes _ _ (c .loop-i .i) _ _ _ x v (p .after refl),
       below-more _ _ (c .loop-i .inv .1) (place-kept _ in-force _ _ _ ws (c .loop-i .i) _ _ x v (p .answer)),
@@ -32,7 +32,7 @@ loop-i-again c =
 pub returns-then-not-place : need.returns-then-not-place
 returns-then-not-place c =
     let ws = c .args .part .now in
-    let x = kind-at ws (c .loop-i .i) _ (c .loop-i-test .taken) (c .decode-instruction .ensures) in
+    let x = kind-at ws (c .loop-i .i) _ (c .loop-i-test .taken) (c .decode-instruction .ensures .value) in
     let n = kinds-length ws in
     (omega arith, c .loop-i .inv .1, place-kept _ in-force _ _ _ ws (c .loop-i .i) _ _ x (c .loop-i .inv .0) (c .if-not-place .ensures tt .answer))
 
