@@ -1,8 +1,8 @@
 -- A block's card says of each register that it is free, or has the colour and the value of a variable.
-pub use Rattle.rules.specs.declared.layout.Variable.{Variable}
-pub use Rattle.rules.specs.declared.layout.Slot.{Slot}
-pub use Rattle.rules.specs.declared.layout.Slot.the-variants.{Free as free, Coloured as slot}
-pub use Rattle.rules.specs.declared.layout.Block.{Block}
+pub use Rattle.isa.specs.declared.card.Variable.{Variable}
+pub use Rattle.isa.specs.declared.card.Slot.{Slot}
+pub use Rattle.isa.specs.declared.card.Slot.the-variants.{Free as free, Coloured as slot}
+pub use Rattle.isa.specs.declared.card.Block.{Block}
 use mathlib.Core.Bool.{Bool, true, false, cond, _&&_}
 use mathlib.Core.List.{List, [], _∷_}
 use Prim.Native.Nat.{ℕ, _+_}

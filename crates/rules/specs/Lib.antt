@@ -6,3 +6,4 @@ pub mod Rules
 pub mod Block
 pub mod Module
 pub mod Part
+pub mod Words
