@@ -2,7 +2,7 @@
 use mathlib.Core.Bool.{Bool, true, false}
 use Prim.Native.Nat.{ℕ}
 use Rattle.machine.specs.declared.ends.Report.{Report}
-use Rattle.machine.specs.declared.ends.Report.the-variants.{Counters, Store, Destination, Queue, Outside}
+use Rattle.machine.specs.declared.ends.Report.the-variants.{CountersDiffer, StoreDiffers, Destination, Queue, Outside}
 use Rattle.machine.specs.declared.ends.End.{End}
 use Rattle.machine.specs.declared.ends.End.the-variants.{Going, Halted, NoSuchCell, Reported}
 
@@ -11,8 +11,8 @@ abbrev pub number : End → ℕ
 number Going = 0
 number Halted = 1
 number NoSuchCell = 2
-number (Reported Counters) = 3
-number (Reported Store) = 4
+number (Reported CountersDiffer) = 3
+number (Reported StoreDiffers) = 4
 number (Reported Destination) = 5
 number (Reported Queue) = 6
 number (Reported Outside) = 7

@@ -1,3 +1,5 @@
+pub mod Ends
 pub mod Pairs
 pub mod Queued
-pub mod Ends
+pub mod Machine
+pub mod Views

@@ -6,9 +6,9 @@ ghost use Rattle.machine.specs.Ends.{number, going?};
 #[derive(Clone, Copy)]
 pub enum Report {
     // The two counters differ.
-    Counters,
+    CountersDiffer,
     // Blue's store is not the oldest one of green.
-    Store,
+    StoreDiffers,
     // The destination is set where it must be clear, or is not the one that blue names.
     Destination,
     // A queue that is full, or empty, or not empty where it must not be so.
@@ -36,8 +36,8 @@ impl End {
             End::Going => 0,
             End::Halted => 1,
             End::NoSuchCell => 2,
-            End::Reported(Report::Counters) => 3,
-            End::Reported(Report::Store) => 4,
+            End::Reported(Report::CountersDiffer) => 3,
+            End::Reported(Report::StoreDiffers) => 4,
             End::Reported(Report::Destination) => 5,
             End::Reported(Report::Queue) => 6,
             End::Reported(Report::Outside) => 7,

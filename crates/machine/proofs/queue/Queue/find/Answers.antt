@@ -21,5 +21,5 @@ pub returns : need.returns
 returns c =
     let all : c .loop-i .i ≡ c .args .self .now .len = omega arith in
     let e : c .loop-i .found ≡ newest (queued (c .args .self .now)) (c .args .address) =
-      c .loop-i .inv ∙ ap (λ n. newest (take n (c .args .self .now .slots)) (c .args .address)) all in
+    c .loop-i .inv ∙ ap (λ n. newest (take n (c .args .self .now .slots)) (c .args .address)) all in
     record { newest = e; over = λ words. overlay-newest (queued (c .args .self .now)) words (c .args .address) ∙ ap (λ o. valueOr o (words (c .args .address))) (sym e) }
