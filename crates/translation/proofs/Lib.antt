@@ -1,3 +1,5 @@
 pub mod Twins
 pub mod Placing
 pub mod Standing
+pub mod Values
+pub mod Doubled
