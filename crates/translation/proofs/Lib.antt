@@ -3,3 +3,4 @@ pub mod Placing
 pub mod Standing
 pub mod Values
 pub mod Doubled
+pub mod Running
