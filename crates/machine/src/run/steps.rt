@@ -17,7 +17,7 @@ use isa::kinds::Colour;
 use isa::kinds::Kind;
 use memory::Memory;
 
-// Steps of a run.
+// The most steps that a run takes.
 pub const MOST_STEPS: u32 = 1_000_000_000;
 
 impl Latches {
