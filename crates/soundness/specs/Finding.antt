@@ -38,15 +38,15 @@ Lasts w code cells n = (j : ℕ) → j < n → unstruck w code cells j .end ≡ 
 abbrev pub IsReport : End → Type 0
 IsReport e = (3 ≤ number e) × (number e ≤ 7)
 
--- Condition (a): cells, store count and end are the unstruck run's after as many steps.
+-- (a): cells, store count and end are the unstruck run's after as many steps.
 pub record Undisturbed (w : ℕ → Bool) (code : List Kind) (cells : ℕ → ℕ) (x : Run) : Type 0 where
   pub lasts : Lasts w code cells (x .steps)
   pub same-cells : x .state .cells ≡ unstruck w code cells (x .steps) .state .cells
   pub same-stores : x .state .stores ≡ unstruck w code cells (x .steps) .state .stores
   pub same-end : x .end ≡ unstruck w code cells (x .steps) .end
 
--- Condition (b): the end is a report. Its store count c is at most the number of stores that the unstruck run makes
--- within as many steps, and its cells are those at the load with the first c of these stores made.
+-- (b): the end is a report. Its store count c is at most the number of stores that the unstruck run makes
+-- within as many steps, and its cells are those at the start with the first c of these stores made.
 pub record Caught (w : ℕ → Bool) (code : List Kind) (cells : ℕ → ℕ) (x : Run) : Type 0 where
   pub lasts : Lasts w code cells (x .steps)
   pub a-report : IsReport (x .end)
