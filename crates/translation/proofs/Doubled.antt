@@ -39,6 +39,12 @@ going s k = record { state = s; end = Going; steps = k }
 abbrev pub pair : ℕ → ℕ → Pair
 pair a v = record { address = a; word = v }
 
+-- no store leaves
+pub none-left : (l : List Pair) (s t : State) → s .stores ≡ t .stores → l ++ leaving s t ≡ l
+none-left l s t e =
+    let z : t .stores - s .stores ≡ 0 = omega arith in
+    ap (λ n. l ++ take n (s .queue)) z ∙ append-nil l
+
 module _ (w : ℕ → Bool) (m : Module) where
   step-at : (s : State) (k : ℕ) (i : Kind) → eqb (s .green) (s .blue) ≡ true → s .green < size m → instr m (s .green) ≡ i →
       step w (m .code) (going s k) ≡ counted (going s k) (settled s (exec w i s))
@@ -71,12 +77,6 @@ module _ (w : ℕ → Bool) (m : Module) where
     made-next x r h =
         let u = ap (step w (m .code)) (r .at-k) ∙ h in
         (u, λ j. r .made-k j ++ leaving (r .at-k j .state) (u j .state))
-
-    -- no store leaves
-    none-left : (l : List Pair) (s t : State) → s .stores ≡ t .stores → l ++ leaving s t ≡ l
-    none-left l s t e =
-        let z : t .stores - s .stores ≡ 0 = omega arith in
-        ap (λ n. l ++ take n (s .queue)) z ∙ append-nil l
 
     raw-step : {k : ℕ} {s : State} {l : List Pair} (t : State) → Raw k s l → step w (m .code) (going s k) ≡ going t (suc k) → s .stores ≡ t .stores → Raw (suc k) t l
     raw-step {k} {s} {l} t r h e =

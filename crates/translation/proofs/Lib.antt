@@ -4,3 +4,9 @@ pub mod Standing
 pub mod Values
 pub mod Doubled
 pub mod Running
+pub mod Concluding
+pub mod Knowing
+pub mod Meeting
+pub mod Noting
+pub mod Checking
+pub mod Passing
