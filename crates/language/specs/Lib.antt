@@ -1,0 +1,5 @@
+pub mod Plans
+pub mod Meaning
+pub mod Limits
+pub mod Laws
+pub mod Sample

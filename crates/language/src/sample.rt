@@ -1,0 +1,28 @@
+// The worked example.
+ghost use mathlib.Core.Path.{_≡_};
+ghost use Prim.Native.Nat.{ℕ, _<_};
+ghost use lib.ListN.{getD};
+ghost use Rattle.language.specs.Limits.{need};
+ghost use Rattle.language.specs.Meaning.{bookOf, ending};
+ghost use Rattle.language.specs.Sample.{sample, cells, comes};
+
+// The need of the sample plan.
+pub fn sample_need() -> u32
+    ensures { λ r. ⌜ r ≡ need sample ⌝ }
+{
+    55
+}
+
+// The ending of the sample plan.
+pub fn sample_ending() -> u8
+    ensures { λ r. ⌜ r ≡ ending comes ⌝ }
+{
+    1
+}
+
+// What the sample plan leaves in the four cells.
+pub fn sample_cells() -> [u32; 4]
+    ensures { λ r. ⌜ ((a : ℕ) → a < 4 → getD r a 0 ≡ bookOf comes .cells a) ⌝ }
+{
+    [1, 15, 25, 35]
+}
