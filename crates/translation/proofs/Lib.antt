@@ -1,0 +1,12 @@
+pub mod Twins
+pub mod Placing
+pub mod Standing
+pub mod Values
+pub mod Doubled
+pub mod Running
+pub mod Concluding
+pub mod Knowing
+pub mod Meeting
+pub mod Noting
+pub mod Checking
+pub mod Passing
