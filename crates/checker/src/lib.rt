@@ -1,6 +1,4 @@
-// The check that decides the rules, over shared expressions.
-mod node;
-mod note;
-mod notes;
-mod state;
-mod table;
+// The check of modules, and the pass that it gives.
+pub mod check;
+pub mod fault;
+pub mod pass;

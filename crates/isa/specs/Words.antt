@@ -42,26 +42,26 @@ abbrev pub packed : ℕ → ℕ → ℕ → ℕ → ℕ
 packed op a b c = op * 2 ^ 24 + a * 2 ^ 16 + b * 2 ^ 8 + c
 
 -- the first word of an instruction; a field that it does not use is 0
-abbrev pub first : Kind → ℕ
-first (Move c a n) = packed (operationOf (Move c a n)) (a .number) 0 0
-first (Copy a b) = packed (operationOf (Copy a b)) (a .number) (b .number) 0
-first (Arith o a b c) = packed (operationOf (Arith o a b c)) (a .number) (b .number) (c .number)
-first (Load c a b) = packed (operationOf (Load c a b)) (a .number) (b .number) 0
-first (Store c a b) = packed (operationOf (Store c a b)) (a .number) (b .number) 0
-first (Jump c a) = packed (operationOf (Jump c a)) (a .number) 0 0
-first (Branch c a b) = packed (operationOf (Branch c a b)) (a .number) (b .number) 0
-first Halt = packed 15 0 0 0
+abbrev pub firstWord : Kind → ℕ
+firstWord (Move c a n) = packed (operationOf (Move c a n)) (a .number) 0 0
+firstWord (Copy a b) = packed (operationOf (Copy a b)) (a .number) (b .number) 0
+firstWord (Arith o a b c) = packed (operationOf (Arith o a b c)) (a .number) (b .number) (c .number)
+firstWord (Load c a b) = packed (operationOf (Load c a b)) (a .number) (b .number) 0
+firstWord (Store c a b) = packed (operationOf (Store c a b)) (a .number) (b .number) 0
+firstWord (Jump c a) = packed (operationOf (Jump c a)) (a .number) 0 0
+firstWord (Branch c a b) = packed (operationOf (Branch c a b)) (a .number) (b .number) 0
+firstWord Halt = packed 15 0 0 0
 
 -- the second word
-abbrev pub second : Kind → ℕ
-second (Move c a n) = n
-second (Copy a b) = 0
-second (Arith o a b c) = 0
-second (Load c a b) = 0
-second (Store c a b) = 0
-second (Jump c a) = 0
-second (Branch c a b) = 0
-second Halt = 0
+abbrev pub secondWord : Kind → ℕ
+secondWord (Move c a n) = n
+secondWord (Copy a b) = 0
+secondWord (Arith o a b c) = 0
+secondWord (Load c a b) = 0
+secondWord (Store c a b) = 0
+secondWord (Jump c a) = 0
+secondWord (Branch c a b) = 0
+secondWord Halt = 0
 
 -- the fields of a first word
 abbrev pub operation : ℕ → ℕ

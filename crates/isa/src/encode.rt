@@ -1,7 +1,7 @@
 // The words of an instruction.
 ghost use mathlib.Core.Path.{_≡_};
 ghost use Prim.Native.Nat.{_+_, _*_, _^_, _<_};
-ghost use Rattle.isa.specs.Words.{operationOf, packed, first, second};
+ghost use Rattle.isa.specs.Words.{operationOf, packed, firstWord, secondWord, kindOf};
 use crate::instruction::Instruction;
 use crate::kinds::Arithmetic;
 use crate::kinds::Colour;
@@ -45,7 +45,8 @@ fn pack(op: u8, a: u8, b: u8, c: u8) -> u32
 
 // The two words of an instruction; a field that it does not use is 0.
 pub fn encode(instruction: Instruction) -> (u32, u32)
-    ensures { λ r. ⌜ r ≡ (first (instruction .kind), second (instruction .kind)) ⌝ }
+    ensures value { λ r. ⌜ r ≡ (firstWord (instruction .kind), secondWord (instruction .kind)) ⌝ }
+    ensures back { λ r. ⌜ kindOf (r .0) (r .1) ≡ instruction .kind ⌝ }
 {
     let kind = instruction.kind;
     let op = kind.operation();

@@ -40,6 +40,20 @@ fn word(words: &[u32], at: usize) -> u32
     if at < words.len() { words[at] } else { 0 }
 }
 
+// How many instructions the words say that they have.
+pub fn instruction_count(words: &[u32]) -> u32
+    ensures { λ r. ⌜ r ≡ wordAt (now (words .entry)) 0 ⌝ }
+{
+    word(words, 0)
+}
+
+// How many blocks the words say that they have.
+pub fn block_count(words: &[u32]) -> u32
+    ensures { λ r. ⌜ r ≡ wordAt (now (words .entry)) 1 ⌝ }
+{
+    word(words, 1)
+}
+
 // The instruction with this number.
 pub fn instruction_at(words: &[u32], place: u32) -> Instruction
     ensures { λ r. ⌜ r .kind ≡ kindAt (now (words .entry)) place ⌝ }
@@ -129,8 +143,8 @@ fn fits_start(words: &[u32], instructions: u32, block: u32) -> bool
 fn is_measured(words: &[u32]) -> bool
     ensures { λ r. ⌜ r ≡ measured (now (words .entry)) ⌝ }
 {
-    let instructions = word(words, 0);
-    let blocks = word(words, 1);
+    let instructions = instruction_count(words);
+    let blocks = block_count(words);
     if instructions == 0 || instructions > INSTRUCTIONS || blocks == 0 || blocks > BLOCKS {
         return false;
     }
@@ -164,7 +178,7 @@ fn fits_block(words: &[u32], instructions: u32, block: u32) -> bool
 fn fits_code(words: &[u32]) -> bool
     ensures { λ r. ⌜ r ≡ codeFits (now (words .entry)) ⌝ }
 {
-    is_measured(words) && is_code(words, word(words, 0))
+    is_measured(words) && is_code(words, instruction_count(words))
 }
 
 // The counts of the words' module, or the first fault of its layout: length, counts, operations and
@@ -175,8 +189,8 @@ pub fn examine(words: &[u32]) -> Result<Shape, LayoutFault>
     if !fits_code(words) {
         return Err(LayoutFault::Malformed);
     }
-    let instructions = word(words, 0);
-    let blocks = word(words, 1);
+    let instructions = instruction_count(words);
+    let blocks = block_count(words);
     for block in 0..blocks {
         if !fits_block(words, instructions, block) {
             return Err(LayoutFault::Block(block));

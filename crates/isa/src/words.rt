@@ -1,9 +1,8 @@
 // An instruction as two words: op × 2^24 + a × 2^16 + b × 2^8 + c, and imm.
 ghost use mathlib.Core.Path.{_≡_};
-ghost use mathlib.Core.Bool.{cond};
+ghost use mathlib.Core.Bool.{true, cond};
 ghost use Prim.Native.Nat.{ℕ, _+_, _*_, _/_, _%_, _^_, _<_, _≤_};
-ghost use Rattle.isa.specs.Registers.{registers};
-ghost use Rattle.isa.specs.Words.{kindOf, kindBy, first, second, wellFormed, operation, fieldA, fieldB, fieldC, mask, uses, fits, named};
+ghost use Rattle.isa.specs.Words.{firstWord, secondWord, kindOf, kindBy, wellFormed, mask, fits, named};
 use crate::instruction::Instruction;
 use crate::kinds::Arithmetic;
 use crate::kinds::Colour;
@@ -104,7 +103,8 @@ fn assemble(op: u8, a: Register, b: Register, c: Register, imm: u32) -> Instruct
 // The instruction that the words are. Words that are not well formed are read by the low bits of
 // their fields; no layout with such words is accepted.
 pub fn decode(first: u32, second: u32) -> Instruction
-    ensures { λ r. ⌜ r .kind ≡ kindOf first second ⌝ }
+    ensures value { λ r. ⌜ r .kind ≡ kindOf first second ⌝ }
+    ensures back { λ r. ⌜ (wellFormed first second ≡ true → (firstWord (r .kind) ≡ first) × (secondWord (r .kind) ≡ second)) ⌝ }
 {
     let op = (first / 0x100_0000 % 16) as u8;
     let used = fields(op);

@@ -36,6 +36,10 @@ swap : (o q u : Option ℕ) → either (either o q) u ≡ either o (either q u)
 swap None q u = refl
 swap (Some x) q u = refl
 
+newer : (b : Bool) (x : ℕ) (o : Option ℕ) → either (cond b (Some x) None) o ≡ cond b (Some x) o
+newer true x o = refl
+newer false x o = refl
+
 newest-push : (xs : List Pair) (a : ℕ) (p : Pair) → newest (xs ++ (p ∷ [])) a ≡ either (cond (eqb a (p .address)) (Some (p .word)) None) (newest xs a)
 newest-push [] a p = elim (eqb a (p .address)) as (λ b. either None (cond b (Some (p .word)) None) ≡ either (cond b (Some (p .word)) None) None) [ true ↦ refl | false ↦ refl ]
 newest-push (x ∷ xs) a p =
@@ -43,8 +47,9 @@ newest-push (x ∷ xs) a p =
     ap (λ o. either o u) (newest-push xs a p) ∙ swap (cond (eqb a (p .address)) (Some (p .word)) None) (newest xs a) u
 
 -- one slot more
-pub newest-more : (xs : List Pair) (i a : ℕ) (d : Pair) → i < length xs → newest (take (i + 1) xs) a ≡ either (cond (eqb a (getD xs i d .address)) (Some (getD xs i d .word)) None) (newest (take i xs) a)
-newest-more xs i a d h = ap (λ l. newest l a) (take-more xs i d h) ∙ newest-push (take i xs) a (getD xs i d)
+pub newest-more : (xs : List Pair) (i a : ℕ) (d : Pair) → i < length xs → newest (take (i + 1) xs) a ≡ cond (eqb a (getD xs i d .address)) (Some (getD xs i d .word)) (newest (take i xs) a)
+newest-more xs i a d h =
+    ap (λ l. newest l a) (take-more xs i d h) ∙ newest-push (take i xs) a (getD xs i d) ∙ newer (eqb a (getD xs i d .address)) (getD xs i d .word) (newest (take i xs) a)
 
 under : (o : Option ℕ) (b : Bool) (x y : ℕ) → valueOr o (cond b x y) ≡ valueOr (either o (cond b (Some x) None)) y
 under None true x y = refl

@@ -1,11 +1,11 @@
 // What the machine holds besides its cells, and what the instructions that touch no cell do to it.
 ghost use mathlib.Core.Path.{_≡_};
-ghost use mathlib.Core.Bool.{true, false};
+ghost use mathlib.Core.List.{[]};
 ghost use Prim.Native.Nat.{ℕ, _+_, _<_};
 ghost use Rattle.memory.specs.Cells.{replaced};
 ghost use lib.ListN.{getD};
-ghost use Rattle.machine.specs.Machine.{begin, enqueue, aim, land, jump, branch, halt};
-ghost use Rattle.machine.specs.Views.{latched, raised, Turns};
+ghost use Rattle.machine.specs.Machine.{enqueue, aim, land, jump, branch, halt};
+ghost use Rattle.machine.specs.Views.{queued, raised, Turns};
 use crate::ends::End;
 use crate::ends::Report;
 use crate::queue::Pair;
@@ -26,10 +26,13 @@ pub struct Latches {
 impl Latches {
     // All 0, the queue empty.
     pub fn start() -> Latches
-        ensures { λ r. ⌜ ((cells : ℕ → ℕ) → latched r cells 0 ≡ begin cells) ⌝ }
+        ensures registers { λ r. ⌜ ((k : ℕ) → getD (r .registers) k 0 ≡ 0) ⌝ }
+        ensures counters { λ r. ⌜ (r .green ≡ 0) × (r .blue ≡ 0) ⌝ }
+        ensures destination { λ r. ⌜ r .destination ≡ 0 ⌝ }
+        ensures queue { λ r. ⌜ queued (r .queue) ≡ [] ⌝ }
     {
         Latches {
-            registers: [0; 32],
+            registers: cleared(),
             green: 0,
             blue: 0,
             destination: 0,
@@ -146,4 +149,11 @@ impl Latches {
         }
         End::Halted
     }
+}
+
+// Registers that all hold 0.
+fn cleared() -> [u32; 32]
+    ensures { λ r. ⌜ ((k : ℕ) → getD r k 0 ≡ 0) ⌝ }
+{
+    [0; 32]
 }

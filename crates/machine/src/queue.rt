@@ -3,6 +3,7 @@ ghost use Prim.Native.Nat.{_≤_};
 ghost use mathlib.Core.Path.{_≡_};
 ghost use lib.ListN.{length};
 
+pub mod numbered;
 pub mod pairs;
 
 // A store under way: the word for an address.

@@ -1,2 +1,4 @@
 pub mod Faults
 pub mod Tables
+pub mod Plans
+pub mod Reading

@@ -1,6 +1,8 @@
-// What a reader of a plan may see of it.
+// What may be seen of a plan.
 ghost use mathlib.Core.Path.{_≡_};
+ghost use Prim.Native.Nat.{_+_, _≤_};
 ghost use Rattle.std.specs.Of.Vec.{vec-items};
+ghost use Rattle.plan.specs.Plans.{spent, needed};
 use crate::tables::Plan;
 use crate::tree::Node;
 use crate::tree::Statement;
@@ -20,11 +22,19 @@ impl Plan {
         self.statements.as_slice()
     }
 
+    // The instructions that all lines need: two for each node, and those of each statement.
+    pub(crate) fn spent(&self) -> u32
+        ensures value { λ r. ⌜ r ≡ spent (now (self .entry)) ⌝ }
+        ensures bound { λ r. ⌜ r ≤ 131072 ⌝ }
+    {
+        2 * self.nodes.len() as u32 + self.own
+    }
+
     // How many instructions the plan's code has at most.
     pub fn need(&self) -> u32
-        ensures { λ r. ⌜ r ≡ now (self .entry) .need ⌝ }
+        ensures { λ r. ⌜ r ≡ needed (now (self .entry)) ⌝ }
     {
-        self.need
+        13 + self.spent()
     }
 
     // How many REPEATs the plan has.

@@ -1,5 +1,5 @@
 // A plan as two tables: the nodes of its expressions, and its statements.
-use crate::variable::Variable;
+use grammar::variable::Variable;
 use isa::kinds::Arithmetic;
 
 // A node by its place in the table of nodes.

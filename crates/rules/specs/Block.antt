@@ -7,6 +7,8 @@ use lib.Dec.{eqb}
 use lib.ListN.{length, getD}
 use Rattle.std.specs.declared.option.Option.{Option}
 use Rattle.std.specs.declared.option.Option.the-variants.{Some, None}
+use Rattle.std.specs.declared.result.Result.{Result}
+use Rattle.std.specs.declared.result.Result.the-variants.{Ok, Err}
 use Rattle.rules.specs.Limits.{Limits}
 use Rattle.rules.specs.Notes.{Kind, halt, Static, none?, clear?, next}
 use Rattle.rules.specs.Cards.{Block, Card, met?, fresh}
@@ -17,6 +19,14 @@ abbrev pub behind : List Block → ℕ → Option Card
 behind [] j = None
 behind (b ∷ bs) zero = Some (b .card)
 behind (b ∷ bs) (suc j) = behind bs j
+
+abbrev pub orFree : Option Card → Card
+orFree None = []
+orFree (Some K) = K
+
+-- the card of the j-th block
+abbrev pub cardAt : List Block → ℕ → Card
+cardAt bs j = orFree (behind bs j)
 
 -- the block may end so: there is a next block, nothing is pending, the destination is clear, and its card is met
 abbrev pub ends? : Option Card → Static → Bool
@@ -46,3 +56,8 @@ BlockPasses L bs after K C = (k : ℕ) → k < length C → kept? L bs after K C
 abbrev pub BlockBreaks : Limits → List Block → Option Card → Card → List Kind → ℕ → Type 0
 BlockBreaks L bs after K C k =
     (k < length C) × ((j : ℕ) → j < k → kept? L bs after K C j ≡ true) × (kept? L bs after K C k ≡ false)
+
+-- what the check of a block answers: every rule is kept, or the first that is broken
+abbrev pub BlockJudged : Limits → List Block → Option Card → Card → List Kind → Result (Unit {0}) ℕ → Type 0
+BlockJudged L bs after K C (Ok u) = BlockPasses L bs after K C
+BlockJudged L bs after K C (Err k) = BlockBreaks L bs after K C k

@@ -7,6 +7,7 @@ ghost use lib.Dec.{ltb};
 ghost use lib.ListN.{length, getD};
 ghost use Rattle.std.specs.Options.{Cases};
 ghost use Rattle.std.specs.Vec.{made};
+ghost use Rattle.std.specs.Of.Vec.{vec-items, vec-len};
 ghost use Rattle.isa.specs.declared.kinds.Kind.the-variants.{Halt};
 ghost use Rattle.machine.specs.Views.{kinds};
 use super::Code;
@@ -30,12 +31,31 @@ impl Code {
         self.instructions.clear();
     }
 
+    fn count(&self) -> usize
+        ensures { λ r. ⌜ r ≡ vec-len (now (self .entry) .instructions) ⌝ }
+    {
+        self.instructions.len()
+    }
+
+    fn has_room(&self) -> bool
+        ensures { λ r. ⌜ r ≡ ltb (vec-len (now (self .entry) .instructions)) 1024 ⌝ }
+    {
+        self.count() < INSTRUCTIONS as usize
+    }
+
+    fn at(&self, place: usize) -> Instruction
+        requires { ⌜ place < vec-len (now self .instructions) ⌝ }
+        ensures { λ r. ⌜ r ≡ getD (vec-items (now (self .entry) .instructions)) place r ⌝ }
+    {
+        self.instructions[place]
+    }
+
     // Adds an instruction, or answers false where there are 1,024.
     pub fn push(&mut self, instruction: Instruction) -> bool
         ensures room { λ r. ⌜ r ≡ ltb (length (kinds (now (self .entry)))) 1024 ⌝ }
         ensures after { λ r. ⌜ kinds (now (self .exit)) ≡ cond r (kinds (now (self .entry)) ++ (instruction .kind ∷ [])) (kinds (now (self .entry))) ⌝ }
     {
-        if self.instructions.len() >= INSTRUCTIONS as usize {
+        if !self.has_room() {
             return false;
         }
         self.instructions.push_reserved(instruction);
@@ -45,18 +65,17 @@ impl Code {
     pub fn len(&self) -> usize
         ensures { λ r. ⌜ r ≡ length (kinds (now (self .entry))) ⌝ }
     {
-        self.instructions.len()
+        self.count()
     }
 
     // The instruction with this number.
-    pub fn get(&self, at: usize) -> Option<Instruction>
+    pub fn get(&self, place: usize) -> Option<Instruction>
         ensures few { λ _. ⌜ length (kinds (now (self .entry))) ≤ 1024 ⌝ }
-        ensures cases { λ r. ⌜ Cases r (length (kinds (now (self .entry))) ≤ at) (λ i. (at < length (kinds (now (self .entry)))) × (i .kind ≡ getD (kinds (now (self .entry))) at Halt)) ⌝ }
+        ensures cases { λ r. ⌜ Cases r (length (kinds (now (self .entry))) ≤ place) (λ i. (place < length (kinds (now (self .entry)))) × (i .kind ≡ getD (kinds (now (self .entry))) place Halt)) ⌝ }
     {
-        if at >= self.instructions.len() {
+        if place >= self.count() {
             return None;
         }
-        let instruction = self.instructions[at];
-        Some(instruction)
+        Some(self.at(place))
     }
 }

@@ -6,6 +6,7 @@ ghost use Rattle.memory.specs.Cells.{Cells};
 ghost use Rattle.isa.specs.Registers.{registers};
 ghost use Rattle.machine.specs.Ends.{going?};
 ghost use Rattle.machine.specs.Machine.{started, seen, commit, exec, act, step, after, settled};
+ghost use Rattle.machine.specs.Laws.{Lawful};
 ghost use Rattle.machine.specs.Views.{stateOf, runOf, kinds, queued};
 use super::Run;
 use crate::code::Code;
@@ -16,7 +17,7 @@ use isa::kinds::Colour;
 use isa::kinds::Kind;
 use memory::Memory;
 
-// Steps of a run.
+// The most steps that a run takes.
 pub const MOST_STEPS: u32 = 1_000_000_000;
 
 impl Latches {
@@ -145,14 +146,22 @@ impl Run {
         self.end = self.act(code, memory);
     }
 
+    // How many of n more steps it may take.
+    fn allowed(&self, n: u32) -> u32
+        ensures { λ r. ⌜ r ≡ min n (1000000000 - now (self .entry) .steps) ⌝ }
+    {
+        n.min(MOST_STEPS - self.steps)
+    }
+
     // Steps until n are done or an end comes, and answers how many it took. A run takes
     // 1,000,000,000 steps at most: of those that would pass that number none is taken.
     pub fn advance<M: Memory>(&mut self, code: &Code, memory: &mut M, n: u32) -> u32
         ensures does { λ _. ⌜ runOf (now (self .exit)) (cells (now (memory .exit))) ≡ after (cells (now (memory .entry)) .writable) (kinds (now (code .entry))) (runOf (now (self .entry)) (cells (now (memory .entry)))) (min n (1000000000 - now (self .entry) .steps)) ⌝ }
         ensures same { λ _. ⌜ cells (now (memory .exit)) .writable ≡ cells (now (memory .entry)) .writable ⌝ }
         ensures taken { λ r. ⌜ now (self .entry) .steps + r ≡ now (self .exit) .steps ⌝ }
+        ensures laws { λ _. ⌜ Lawful (cells (now (memory .entry)) .writable) (kinds (now (code .entry))) (runOf (now (self .entry)) (cells (now (memory .entry)))) ⌝ }
     {
-        let most = n.min(MOST_STEPS - self.steps);
+        let most = self.allowed(n);
         let mut taken = 0;
         while taken < most && self.end.is_going() {
             self.step(code, memory);

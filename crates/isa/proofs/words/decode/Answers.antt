@@ -5,7 +5,8 @@ use lib.Bits.{bitAnd}
 use lib.Dec.{eqb}
 use Rattle.isa.specs.declared.kinds.Kind.{Kind}
 use Rattle.isa.specs.declared.kinds.Register.{Register}
-use Rattle.isa.specs.Words.{kindBy, named, mask, operation, fieldA, fieldB, fieldC}
+use Rattle.isa.specs.Words.{kindBy, named, mask, operation, fieldA, fieldB, fieldC, firstWord, secondWord}
+use Rattle.isa.proofs.RoundTrip.{encoded}
 use Rattle.isa.proofs.words.decode.Needs as need
 
 -- the operands as the table's entry u gives them
@@ -26,6 +27,11 @@ assembled k op fa fb fc imm u i a b c e ea eb ec ei eu =
 pub returns : need.returns
 returns c =
     let w = c .args .first in
+    let k =
     assembled _ (operation w % 16) (fieldA w) (fieldB w) (fieldC w) (c .args .second) (c .fields-used .result) (c .immediate-imm .result)
-    (c .register-a .result) (c .register-b .result) (c .register-c .result) (c .assemble .ensures) (c .register-a .ensures .value) (c .register-b .ensures .value)
-    (c .register-c .ensures .value) (c .immediate-imm .ensures) (c .fields-used .ensures)
+    (c .register-a .result) (c .register-b .result) (c .register-c .result) (c .assemble .ensures) (c .register-a .ensures .value)
+    (c .register-b .ensures .value) (c .register-c .ensures .value) (c .immediate-imm .ensures) (c .fields-used .ensures) in
+    record {
+      value = k;
+      back = λ h. let e = encoded w (c .args .second) h in (ap firstWord k ∙ e .0, ap secondWord k ∙ e .1);
+    }

@@ -10,14 +10,14 @@ use Rattle.isa.specs.declared.kinds.Kind.the-variants.{Halt}
 use Rattle.machine.proofs.Stored.{kinds-number}
 use Rattle.machine.proofs.code.Code.get.Needs as need
 
-pub returns-then-at-len : need.returns-then-at-len
-returns-then-at-len c = let n = kinds-number (c .args .self .now) in record { few = omega arith; cases = omega arith }
+pub returns-then-place-count : need.returns-then-place-count
+returns-then-place-count c = let n = kinds-number (c .args .self .now) in record { few = omega arith; cases = omega arith }
 
 pub returns : need.returns
 returns c =
     let n = kinds-number (c .args .self .now) in
-    let low : c .args .at < length (vec-items (c .args .self .now .instructions)) = omega (arith, c .args .self .now .instructions .ok .0) in
+    let low : c .args .place < length (vec-items (c .args .self .now .instructions)) = omega (arith, c .args .self .now .instructions .ok .0) in
     record {
       few = omega arith;
-      cases = (omega arith, ap (λ (i : Instruction). i .kind) (c .index-instruction .ensures) ∙ sym (getD-map (λ (i : Instruction). i .kind) (vec-items (c .args .self .now .instructions)) (c .args .at) (c .index-instruction .result .now) Halt low));
+      cases = (omega arith, ap (λ (i : Instruction). i .kind) (c .at .ensures) ∙ sym (getD-map (λ (i : Instruction). i .kind) (vec-items (c .args .self .now .instructions)) (c .args .place) (c .at .result) Halt low));
     }

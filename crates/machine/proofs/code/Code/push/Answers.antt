@@ -9,8 +9,8 @@ use Rattle.isa.specs.declared.instruction.Instruction.{Instruction}
 use Rattle.machine.proofs.Stored.{kinds-number}
 use Rattle.machine.proofs.code.Code.push.Needs as need
 
-pub returns-then-len : need.returns-then-len
-returns-then-len c =
+pub returns-then-not-has-room : need.returns-then-not-has-room
+returns-then-not-has-room c =
     let n = kinds-number (c .args .self .now) in
     record { room = grind (arith, tells, n); after = refl }
 

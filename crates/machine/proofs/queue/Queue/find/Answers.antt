@@ -1,21 +1,18 @@
-use borrow.Author.Needs.{needs}
 use native.Mathlib.Omega.{arith}
 use mathlib.Core.Path.{_≡_, sym, ap, _∙_}
 use Prim.Native.Nat.{_<_}
 use lib.ListN.{length, take}
 use Rattle.std.specs.Options.{valueOr}
-use Rattle.std.proofs.shelf.Ways.{tells}
 use Rattle.machine.specs.Pairs.{newest}
 use Rattle.machine.specs.Queued.{queued}
 use Rattle.machine.proofs.Pairs.{newest-more, overlay-newest}
 use Rattle.machine.proofs.queue.Queue.find.Needs as need
-use Rattle.machine.proofs.queue.Queue.find.Needs.{then-pair-address, else-pair-address}
 
 pub loop-i-again : need.loop-i-again
 loop-i-again c =
     let low : c .loop-i .i < length (c .args .self .now .slots) = omega arith in
     let e = newest-more (c .args .self .now .slots) (c .loop-i .i) (c .args .address) (record { address = 0; word = 0 }) low in
-    elim (c .if-pair-address .came) [ then-pair-address w ↦ grind (arith, tells, e, w .found-is, c .loop-i .inv) | else-pair-address w ↦ grind (arith, tells, e, w .found-is, c .loop-i .inv) ]
+    cc
 
 pub returns : need.returns
 returns c =

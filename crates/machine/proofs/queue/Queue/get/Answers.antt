@@ -18,4 +18,4 @@ pub returns : need.returns
 returns c =
     let e = length-take-le (c .args .self .now .len) (c .args .self .now .slots) (search needs) in
     sym (nth-getD (queued (c .args .self .now)) (c .args .at) (record { address = 0; word = 0 }) (omega arith)
-    ∙ ap Some (getD-take (c .args .self .now .len) (c .args .self .now .slots) (c .args .at) (record { address = 0; word = 0 }) (search needs)))
+    ∙ ap Some (getD-take (c .args .self .now .len) (c .args .self .now .slots) (c .args .at) (record { address = 0; word = 0 }) (search needs) ∙ sym (c .slot .ensures)))

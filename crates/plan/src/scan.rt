@@ -1,0 +1,99 @@
+// From a text to its marks.
+ghost use mathlib.Core.Path.{_≡_};
+ghost use mathlib.Core.List.{[]};
+ghost use Prim.Native.Nat.{_<_, _≤_, _+_};
+ghost use lib.ListN.{length};
+ghost use Rattle.std.specs.Of.Vec.{vec-items, vec-len};
+ghost use Rattle.std.specs.Vec.{made};
+use crate::fault::MarkFault;
+use crate::marks::Marks;
+use crate::word::Kind;
+use crate::word::kind_of;
+use crate::word::spelled;
+use grammar::mark::Mark;
+use grammar::mark::Placed;
+use std::alloc::AllocError;
+use std::alloc::Global;
+
+// Whether a word or a number goes on with this byte.
+fn goes_on(part: Kind, byte: u8) -> bool {
+    match (part, kind_of(byte)) {
+        (Kind::Word, Kind::Word) => true,
+        (Kind::Number, Kind::Number) => true,
+        _ => false,
+    }
+}
+
+// Where the mark that begins at a byte ends.
+fn part_end(text: &[u8], at: usize) -> usize
+    requires { ⌜ at < length (now text) ⌝ }
+    ensures more { λ r. ⌜ at < r ⌝ }
+    ensures within { λ r. ⌜ r ≤ length (now (text .entry)) ⌝ }
+{
+    let part = kind_of(text[at]);
+    let mut end = at + 1;
+    while end < text.len() {
+        if !goes_on(part, text[end]) {
+            return end;
+        }
+        end += 1;
+    }
+    end
+}
+
+// The mark that begins at a byte, and where it ends.
+fn mark_at(text: &[u8], at: usize) -> Result<(Mark, usize), MarkFault>
+    requires { ⌜ at < length (now text) ⌝ }
+    ensures { λ r. ⌜ made r (λ x. (at < x .1) × (x .1 ≤ length (now (text .entry)))) ⌝ }
+{
+    let end = part_end(text, at);
+    match spelled(&text[at..end]) {
+        Some(mark) => Ok((mark, end)),
+        None => Err(MarkFault::Strange(at)),
+    }
+}
+
+impl Marks {
+    // An empty table, with room for the marks of the longest text.
+    pub fn new(heap: Global) -> Result<Marks, AllocError>
+        ensures { λ r. ⌜ made r (λ m. vec-items (m .placed) ≡ []) ⌝ }
+    {
+        let placed = Vec::with_capacity(heap, 8192)?;
+        Ok(Marks { placed, end: Ok(0) })
+    }
+
+    fn push(&mut self, mark: Mark, place: usize)
+        requires { ⌜ vec-len (now self .placed) < 8192 ⌝ }
+        ensures { λ _. ⌜ vec-len (now (self .exit) .placed) ≡ vec-len (now (self .entry) .placed) + 1 ⌝ }
+    {
+        self.placed.push_reserved(Placed { mark, place });
+    }
+
+    // Adds the marks of the text; answers where they end.
+    fn scan_all(&mut self, text: &[u8]) -> Result<usize, MarkFault>
+        requires fresh { ⌜ vec-len (now self .placed) ≡ 0 ⌝ }
+        requires short { ⌜ length (now text) ≤ 8192 ⌝ }
+        ensures { λ _. ⌜ vec-len (now (self .exit) .placed) ≤ length (now (text .entry)) ⌝ }
+    {
+        let mut at = 0;
+        while at < text.len() {
+            if text[at] == b' ' {
+                at += 1;
+            } else {
+                let (mark, end) = mark_at(text, at)?;
+                self.push(mark, at);
+                at = end;
+            }
+        }
+        Ok(at)
+    }
+
+    // Replaces the marks by those of the text.
+    pub fn scan(&mut self, text: &[u8])
+        requires { ⌜ length (now text) ≤ 8192 ⌝ }
+        ensures { λ _. ⌜ vec-len (now (self .exit) .placed) ≤ length (now (text .entry)) ⌝ }
+    {
+        self.placed.clear();
+        self.end = self.scan_all(text);
+    }
+}

@@ -1,0 +1,6 @@
+// The simulator: runs of checked code over any memory, with strikes on command.
+mod fill;
+mod latch;
+pub mod place;
+pub mod refusal;
+pub mod simulator;
