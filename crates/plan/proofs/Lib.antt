@@ -1,3 +1,5 @@
 mod Front
 mod Growing
 mod Opening
+mod Scanning
+mod Spelled

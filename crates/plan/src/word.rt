@@ -1,7 +1,11 @@
 // From the bytes of one mark to the mark.
 ghost use mathlib.Core.Path.{_≡_};
-ghost use Prim.Native.Nat.{_<_};
-ghost use lib.ListN.{length};
+ghost use mathlib.Core.List.{[], _∷_};
+ghost use Prim.Native.Nat.{ℕ, _<_, _+_};
+ghost use lib.ListN.{length, getD};
+ghost use Rattle.std.specs.Options.{Cases};
+ghost use Rattle.std.specs.shelf.Text.{sameBytes};
+ghost use Rattle.plan.specs.Spelling.{kindOf, Spells, NoMark, Whole};
 use grammar::mark::Bracket;
 use grammar::mark::Mark;
 use grammar::variable::Variable;
@@ -16,7 +20,9 @@ pub enum Kind {
 }
 
 // The kind of mark that a byte begins.
-pub fn kind_of(byte: u8) -> Kind {
+pub fn kind_of(byte: u8) -> Kind
+    ensures { λ r. ⌜ r ≡ kindOf byte ⌝ }
+{
     match byte {
         b'A'..=b'Z' => Kind::Word,
         b'0'..=b'9' => Kind::Number,
@@ -24,8 +30,18 @@ pub fn kind_of(byte: u8) -> Kind {
     }
 }
 
+// Whether these letters are this word.
+fn same(letters: &[u8], word: &[u8]) -> bool
+    ensures { λ r. ⌜ r ≡ sameBytes (now (letters .entry)) (now (word .entry)) ⌝ }
+{
+    letters == word
+}
+
 // The variable that a letter names.
-fn variable(letter: u8) -> Option<Mark> {
+fn variable(letter: u8) -> Option<Mark>
+    requires { ⌜ kindOf letter ≡ Kind.Word ⌝ }
+    ensures { λ r. ⌜ Cases r (NoMark (letter ∷ [])) (Spells (letter ∷ [])) ⌝ }
+{
     match letter {
         b'A'..=b'F' => Some(Mark::Variable(Variable {
             number: letter - b'A',
@@ -34,19 +50,35 @@ fn variable(letter: u8) -> Option<Mark> {
     }
 }
 
-fn word(letters: &[u8]) -> Option<Mark> {
-    match letters {
-        b"LET" => Some(Mark::Let),
-        b"PUT" => Some(Mark::Put),
-        b"REPEAT" => Some(Mark::Repeat),
-        b"END" => Some(Mark::End),
-        [letter] => variable(*letter),
-        _ => None,
+fn word(letters: &[u8]) -> Option<Mark>
+    requires some { ⌜ 0 < length (now letters) ⌝ }
+    requires kind { ⌜ kindOf (getD (now letters) 0 0) ≡ Kind.Word ⌝ }
+    ensures { λ r. ⌜ Cases r (NoMark (now (letters .entry))) (Spells (now (letters .entry))) ⌝ }
+{
+    if letters.len() == 1 {
+        return variable(letters[0]);
     }
+    if same(letters, b"LET") {
+        return Some(Mark::Let);
+    }
+    if same(letters, b"PUT") {
+        return Some(Mark::Put);
+    }
+    if same(letters, b"REPEAT") {
+        return Some(Mark::Repeat);
+    }
+    if same(letters, b"END") {
+        return Some(Mark::End);
+    }
+    None
 }
 
 // The number that digits are: a word of 32 bits, without leading zeros.
-fn number(digits: &[u8]) -> Option<Mark> {
+fn number(digits: &[u8]) -> Option<Mark>
+    requires some { ⌜ 0 < length (now digits) ⌝ }
+    requires digits { ⌜ ((k : ℕ) → k < length (now digits) → kindOf (getD (now digits) k 0) ≡ Kind.Number) ⌝ }
+    ensures { λ r. ⌜ Cases r (NoMark (now (digits .entry))) (Spells (now (digits .entry))) ⌝ }
+{
     if digits.len() > 1 && digits[0] == b'0' {
         return None;
     }
@@ -60,7 +92,10 @@ fn number(digits: &[u8]) -> Option<Mark> {
     Some(Mark::Number(value as u32))
 }
 
-fn sign(byte: u8) -> Option<Mark> {
+fn sign(byte: u8) -> Option<Mark>
+    requires { ⌜ kindOf byte ≡ Kind.Sign ⌝ }
+    ensures { λ r. ⌜ Cases r (NoMark (byte ∷ [])) (Spells (byte ∷ [])) ⌝ }
+{
     match byte {
         b'\n' => Some(Mark::LineEnd),
         b'+' => Some(Mark::Operator(Arithmetic::Add)),
@@ -79,11 +114,13 @@ fn sign(byte: u8) -> Option<Mark> {
 
 // The mark that the bytes are, if they are one.
 pub fn spelled(bytes: &[u8]) -> Option<Mark>
-    requires { ⌜ 0 < length (now bytes) ⌝ }
+    requires { ⌜ Whole (now bytes) ⌝ }
+    ensures { λ r. ⌜ Cases r (NoMark (now (bytes .entry))) (Spells (now (bytes .entry))) ⌝ }
 {
-    match kind_of(bytes[0]) {
+    let first = bytes[0];
+    match kind_of(first) {
         Kind::Word => word(bytes),
         Kind::Number => number(bytes),
-        Kind::Sign => sign(bytes[0]),
+        Kind::Sign => sign(first),
     }
 }

@@ -19,20 +19,20 @@ use std::alloc::Global;
 
 impl Notes {
     // Nothing is known of any register.
-    pub fn new(heap: Global) -> Result<Notes, AllocError>
+    pub(crate) fn new(heap: Global) -> Result<Notes, AllocError>
         ensures { λ r. ⌜ made r (λ n. vec-items (n .all) ≡ replicate 32 Nothing) ⌝ }
     {
         let all = vec![in heap; Note::Nothing; 32]?;
         Ok(Notes { all })
     }
 
-    pub fn clear(&mut self)
+    pub(crate) fn clear(&mut self)
         ensures { λ _. ⌜ vec-items (now (self .exit) .all) ≡ replicate 32 Nothing ⌝ }
     {
         self.all.fill(Note::Nothing);
     }
 
-    pub fn note(&self, r: Register) -> Note
+    pub(crate) fn note(&self, r: Register) -> Note
         requires lowr { ⌜ r .number < 32 ⌝ }
         ensures { λ x. ⌜ x ≡ getD (vec-items (now (self .entry) .all)) (r .number) Nothing ⌝ }
     {
@@ -40,7 +40,7 @@ impl Notes {
     }
 
     // Lends the note of a register.
-    pub fn note_mut(&mut self, r: Register) -> &mut Note
+    pub(crate) fn note_mut(&mut self, r: Register) -> &mut Note
         requires lowr { ⌜ r .number < 32 ⌝ }
         ensures { λ x. sem 𝓤 H A (follows notes-row note-row (name (self .entry)) (name x) (λ w. record { all = with-item (now (self .entry) .all) (r .number) w; full = now (self .entry) .full })) }
     {

@@ -23,14 +23,14 @@ const ROOM: usize = REGISTERS as usize + INSTRUCTIONS as usize;
 
 impl Table {
     // An empty table, with room for every expression of a block.
-    pub fn new(heap: Global) -> Result<Table, AllocError>
+    pub(crate) fn new(heap: Global) -> Result<Table, AllocError>
         ensures { λ r. ⌜ made r (λ t. vec-items (t .nodes) ≡ []) ⌝ }
     {
         let nodes = Vec::with_capacity(heap, ROOM)?;
         Ok(Table { nodes })
     }
 
-    pub fn clear(&mut self)
+    pub(crate) fn clear(&mut self)
         ensures { λ _. ⌜ vec-items (now (self .exit) .nodes) ≡ [] ⌝ }
     {
         self.nodes.clear();
@@ -49,7 +49,7 @@ impl Table {
     }
 
     // The entry with the node's tree: the one that has it, or a new one.
-    pub fn intern(&mut self, node: Node) -> Id
+    pub(crate) fn intern(&mut self, node: Node) -> Id
         requires room { ⌜ vec-len (now self .nodes) < room ⌝ }
         requires children { ⌜ reach node ≤ vec-len (now self .nodes) ⌝ }
         ensures known { λ r. ⌜ r .index < vec-len (now (self .exit) .nodes) ⌝ }
@@ -69,7 +69,7 @@ impl Table {
     }
 
     // The number that an entry is, if it is one.
-    pub fn number(&self, x: Id) -> Option<u32>
+    pub(crate) fn number(&self, x: Id) -> Option<u32>
         requires { ⌜ x .index < vec-len (now self .nodes) ⌝ }
         ensures { λ r. ⌜ numOf (at (trees (vec-items (now (self .entry) .nodes))) x) ≡ numeral r ⌝ }
     {
@@ -81,7 +81,7 @@ impl Table {
     }
 
     // Whether two entries are the same tree: they are one entry.
-    pub fn same(&self, x: Id, y: Id) -> bool
+    pub(crate) fn same(&self, x: Id, y: Id) -> bool
         requires left { ⌜ x .index < vec-len (now self .nodes) ⌝ }
         requires right { ⌜ y .index < vec-len (now self .nodes) ⌝ }
         ensures { λ r. ⌜ r ≡ same? (at (trees (vec-items (now (self .entry) .nodes))) x) (at (trees (vec-items (now (self .entry) .nodes))) y) ⌝ }

@@ -14,7 +14,7 @@ pub lines-requires : need.lines-requires
 lines-requires c κs =
     let p = c .clear .last .self in
     let m = c .scan .last .self in
-    let few : vec-len (m .placed) ≤ 8192 = omega (arith, c .scan .ensures, ap length (c .head .ensures), length-take 8192 (c .args .text .now)) in
+    let few : vec-len (m .placed) ≤ 8192 = omega (arith, c .scan .ensures .few, ap length (c .head .ensures), length-take 8192 (c .args .text .now)) in
     record {
       rooms = record {
         nodes = omega (arith, few, m .placed .ok .0, p .nodes .ok .0, ap length (c .clear .ensures .nodes));
