@@ -2,15 +2,22 @@
 ghost use mathlib.Core.Path.{_≡_};
 ghost use Prim.Native.Nat.{ℕ, _<_};
 ghost use lib.ListN.{getD};
-ghost use Rattle.language.specs.Limits.{need};
+ghost use Rattle.language.specs.Limits.{need, Within, in-force};
 ghost use Rattle.language.specs.Meaning.{bookOf, ending};
 ghost use Rattle.language.specs.Sample.{sample, cells, comes};
 
-// The need of the sample plan.
-pub fn sample_need() -> u32
+fn need_number() -> u32
     ensures { λ r. ⌜ r ≡ need sample ⌝ }
 {
     55
+}
+
+// The need of the sample plan, which is within the limits.
+pub fn sample_need() -> u32
+    ensures value { λ r. ⌜ r ≡ need sample ⌝ }
+    ensures within { λ _. ⌜ Within in-force sample ⌝ }
+{
+    need_number()
 }
 
 // The ending of the sample plan.

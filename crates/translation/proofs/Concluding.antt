@@ -96,7 +96,7 @@ module _ (w : ℕ → Bool) (P : Plan) (cells : ℕ → ℕ) (ok : Within in-for
   concluded (stuck s) n R D = D
 
   -- the six variables are set to 0, and then comes the plan
-  whole-run : ((a : ℕ) → Word (cells a)) → Ends w (compiled P) cells (last w P cells) (endOf (outcome w P cells)) (bookOf (outcome w P cells) .cells) (pairs (bookOf (outcome w P cells)))
+  whole-run : ((a : ℕ) → Word a → Word (cells a)) → Ends w (compiled P) cells (last w P cells) (endOf (outcome w P cells)) (bookOf (outcome w P cells) .cells) (pairs (bookOf (outcome w P cells)))
   whole-run words =
       let m = compiled P in
       let S = standing P in
@@ -106,7 +106,7 @@ module _ (w : ℕ → Bool) (P : Plan) (cells : ℕ → ℕ) (ok : Within in-for
       concluded (meaning w P (blank cells)) (taken w P (blank cells) 6) (λ i. 0)
       (run-plan w m cells short P 6 6 inside (omega arith) (omega (arith, ok .shallow)) (ok .proper) (S .plan) (blank cells) 6 (λ i. 0) r λ i _. refl)
 
-  ran : ((a : ℕ) → Word (cells a)) → Ran w P cells
+  ran : ((a : ℕ) → Word a → Word (cells a)) → Ran w P cells
   ran words =
       let E = whole-run words in
       let d = outcome w P cells in

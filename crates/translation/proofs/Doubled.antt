@@ -87,7 +87,7 @@ module _ (w : ℕ → Bool) (m : Module) where
     pub record Reach (n : ℕ) (R : ℕ → ℕ) (p : ℕ) (cs : ℕ → ℕ) (l : List Pair) : Type 0 where
       raw : Raw (twice n) (both R p cs l) l
       pub regs : (i : ℕ) → Word (R i)
-      pub cells : (a : ℕ) → Word (cs a)
+      pub cells : (a : ℕ) → Word a → Word (cs a)
 
     -- the run goes on for one step less than k, and then ends
     pub record Ends (k : ℕ) (e : End) (cs : ℕ → ℕ) (l : List Pair) : Type 0 where
@@ -106,7 +106,7 @@ module _ (w : ℕ → Bool) (m : Module) where
         let n = made-next (record { state = s; end = e; steps = suc k }) r h in
         record { final = s; last = k; last-is = refl; going-then = r .at-k; ended = n .0; cells-then = refl; count-then = c; made-then = n .1 ∙ none-left l s s refl }
 
-    pub begins : ((a : ℕ) → Word (c₀ a)) → Reach 0 (λ i. 0) 0 c₀ []
+    pub begins : ((a : ℕ) → Word a → Word (c₀ a)) → Reach 0 (λ i. 0) 0 c₀ []
     begins h = record { raw = record { at-k = refl; made-k = refl }; regs = λ i. omega arith; cells = h }
 
     module _ {n : ℕ} {R : ℕ → ℕ} {p : ℕ} {cs : ℕ → ℕ} {l : List Pair} (r : Reach n R p cs l) where
@@ -120,7 +120,7 @@ module _ (w : ℕ → Bool) (m : Module) where
           (set-step blue a s (upd f (place green a) v) (suc (twice p)) (suc (twice n)) cs (length l) R (λ j. upd-green same R a v j) (omega (arith, L .room)) (L .second)) refl in
           record {
             raw = subst (λ h. Raw (twice (suc n)) (state h (twice (suc p)) 0 [] cs (length l)) l) (upd-twin same R a v) r₂;
-            regs = upd-word R a v (r .regs) (get-word s R cs k (r .regs) (r .cells));
+            regs = λ i. upd-word R a v i (r .regs i) (get-word s R cs k (r .regs) (r .cells));
             cells = r .cells;
           }
 
@@ -172,7 +172,7 @@ module _ (w : ℕ → Bool) (m : Module) where
           record {
             raw = record { at-k = h .0; made-k = h .1 ∙ ap (λ i. l ++ take i (pair va vb ∷ [])) one };
             regs = r .regs;
-            cells = upd-word cs va vb (r .cells) (subst Word eb (r .regs b));
+            cells = λ i h. upd-word cs va vb i (r .cells i h) (subst Word eb (r .regs b));
           }
 
       pub run-stuck : {x : _} {a b : ℕ} (va vb : ℕ) → R a ≡ va → R b ≡ vb → w va ≡ false → Line m p x (store a b) → Ends (twice (suc n)) NoSuchCell cs l

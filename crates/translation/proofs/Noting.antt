@@ -9,7 +9,7 @@ use native.Mathlib.Numerals.{add-one}
 use lib.Dec.{eqb, ltb, eqb·suc-zero}
 use Rattle.std.proofs.shelf.Tests.{eq-eqb, lt-ltb, le-leb}
 use Rattle.isa.specs.Registers.{registers}
-use Rattle.isa.specs.Words.{second as immediate}
+use Rattle.isa.specs.Words.{secondWord as immediate}
 use Rattle.rules.specs.Limits.{Limits}
 use Rattle.rules.specs.Expressions.{Expr, num as lit, load, mk, same?}
 use Rattle.rules.specs.Notes as notes

@@ -7,7 +7,7 @@ use native.Mathlib.Omega.{arith}
 use native.Mathlib.Decide.{decLt}
 use lib.ListN.{getD, List·getD-eq-default}
 use Rattle.isa.specs.Registers.{registers}
-use Rattle.isa.specs.Words.{second as immediate}
+use Rattle.isa.specs.Words.{secondWord as immediate}
 use Rattle.std.proofs.shelf.Tests.{le-ltb}
 use Rattle.rules.specs.Notes.{green, blue, Kind, halt}
 use Rattle.rules.specs.Cards.{free, slot, fresh}

@@ -34,15 +34,15 @@ alu-word Lt x y = one (ltb x y)
     one true = omega arith
     one false = omega arith
 
-pub get-word : (s : Source) (R cs : ℕ → ℕ) → WordIn s → ((i : ℕ) → Word (R i)) → ((a : ℕ) → Word (cs a)) → Word (get s R cs)
+pub get-word : (s : Source) (R cs : ℕ → ℕ) → WordIn s → ((i : ℕ) → Word (R i)) → ((a : ℕ) → Word a → Word (cs a)) → Word (get s R cs)
 get-word (num n) R cs k h c = k
 get-word (copy b) R cs k h c = h b
 get-word (calc o b d) R cs k h c = alu-word o (R b) (R d)
-get-word (fetch b) R cs k h c = c (R b)
+get-word (fetch b) R cs k h c = c (R b) (h b)
 
-pub upd-word : (f : ℕ → ℕ) (a v : ℕ) → ((r : ℕ) → Word (f r)) → Word v → (r : ℕ) → Word (upd f a v r)
-upd-word f a v h k r = one (eqb r a)
+pub upd-word : (f : ℕ → ℕ) (a v r : ℕ) → Word (f r) → Word v → Word (upd f a v r)
+upd-word f a v r h k = one (eqb r a)
   where
     one : (b : Bool) → Word (cond b v (f r))
     one true = k
-    one false = h r
+    one false = h

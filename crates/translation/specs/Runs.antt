@@ -45,5 +45,6 @@ module _ (w : ℕ → Bool) (P : Plan) (cells : ℕ → ℕ) where
     -- it never reports
     pub quiet : (k : ℕ) → number (runs k .end) < 3
 
+-- of every plan within the limits, over all cells that hold words, writable or not
 abbrev pub CodeRuns : Type 0
-CodeRuns = (P : Plan) → Within in-force P → (w : ℕ → Bool) (cells : ℕ → ℕ) → ((a : ℕ) → cells a < 2 ^ 32) → Ran w P cells
+CodeRuns = (P : Plan) → Within in-force P → (w : ℕ → Bool) (cells : ℕ → ℕ) → ((a : ℕ) → a < 2 ^ 32 → cells a < 2 ^ 32) → Ran w P cells
