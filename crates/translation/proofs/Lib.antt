@@ -10,3 +10,4 @@ pub mod Meeting
 pub mod Noting
 pub mod Checking
 pub mod Passing
+pub mod Bytes

@@ -14,7 +14,8 @@ use Rattle.rules.specs.Expressions.{Expr, var, same?}
 use Rattle.rules.specs.Notes.{Colour, green, blue, Note, note, Notes, exprOf, has?}
 use Rattle.rules.specs.Cards.{Card, free, slot, cardNote, fresh, chosen, meets?, meetAll?, met?}
 use Rattle.rules.proofs.Sameness.{eq-same}
-use Rattle.translation.specs.Cards.{variable, twinSlot, slotsFrom, card}
+use Rattle.rules.specs.Words.{variable}
+use Rattle.translation.specs.Cards.{twinSlot, slotsFrom, card}
 use Rattle.translation.specs.Code.{twice}
 use Rattle.translation.proofs.Twins.{and-both, half, side, spread, spread-at}
 use Rattle.translation.proofs.Knowing.{Known, unknown, known, known?, tint, ex, tint-is, tint-ex, colour-refl, stat, both}

@@ -14,7 +14,8 @@ use Rattle.rules.specs.Cards.{free, slot, fresh}
 use Rattle.rules.specs.Module.{size, instr, enter}
 use Rattle.language.specs.Plans.{Plan}
 use Rattle.language.specs.Limits.{in-force, Within}
-use Rattle.translation.specs.Cards.{variable, slotsFrom}
+use Rattle.rules.specs.Words.{variable}
+use Rattle.translation.specs.Cards.{slotsFrom}
 use Rattle.translation.specs.Code.{num, set, Entry, inside, start, stop, twice}
 use Rattle.translation.specs.Compile.{past, code, compiled}
 use Rattle.translation.specs.Checked.{Blocks, CodeChecked}

@@ -1,15 +1,11 @@
 -- The cards of compiled code: twin i has variable i, in both colours.
 use mathlib.Core.Bool.{cond}
 use mathlib.Core.List.{List, [], _∷_}
-use Prim.Native.Nat.{ℕ, zero, suc, _%_}
-use native.Mathlib.Omega.{arith}
+use Prim.Native.Nat.{ℕ, zero, suc}
 use lib.Dec.{ltb}
 use Rattle.rules.specs.Notes.{Colour, green, blue}
-use Rattle.rules.specs.Cards.{Variable, Slot, free, slot, Card}
-
--- variable i, there being 32
-abbrev pub variable : ℕ → Variable
-variable i = record { number = i % 32; low = omega arith }
+use Rattle.rules.specs.Cards.{Slot, free, slot, Card}
+use Rattle.rules.specs.Words.{variable}
 
 -- what the card of the first n twins says of twin i's register of a colour
 abbrev pub twinSlot : ℕ → ℕ → Colour → Slot
