@@ -1,0 +1,18 @@
+// Checked code under strikes: a word of the machine that changes by itself either leaves the run as it is, or is found.
+ghost use mathlib.Core.Path.{_≡_};
+ghost use Rattle.soundness.specs.Finding.{Finding};
+
+// The pairs that the machine's queue has room for.
+fn queue_room() -> u8
+    ensures { λ r. ⌜ r ≡ 16 ⌝ }
+{
+    16
+}
+
+// Carries the theorem on strikes. Answers how many pairs the check may let pend for it: the machine's queue must have
+// room for them, or else a run that nothing struck would end in a report.
+pub fn strikes_are_found() -> u8
+    ensures { λ r. ⌜ Finding r ⌝ }
+{
+    queue_room()
+}
