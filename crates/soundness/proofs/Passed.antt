@@ -15,7 +15,7 @@ use Rattle.isa.specs.declared.kinds.Arithmetic.the-variants.{Add, Sub, Mul, Lt}
 use Rattle.isa.specs.declared.kinds.Register.{Register}
 use Rattle.isa.specs.declared.kinds.Kind.{Kind}
 use Rattle.isa.specs.declared.kinds.Kind.the-variants.{Move, Copy, Arith, Load, Store, Jump, Branch, Halt}
-use Rattle.isa.specs.Words.{second, operation, fieldA, fieldB, fieldC, uses, named, kindBy, kindOf}
+use Rattle.isa.specs.Words.{secondWord, operation, fieldA, fieldB, fieldC, uses, named, kindBy, kindOf}
 use Rattle.isa.specs.Layout.{word, kindAt, startAt, cardByte, blockFits, slotFits}
 use Rattle.rules.specs.Limits.{Limits}
 use Rattle.rules.specs.Cards.{free, Block, Card, inside, start, entry, starts?}
@@ -34,15 +34,15 @@ pub record Passed (L : Limits) (m : Module) : Type 0 where
   pub opens : entry (m .blocks) 0 ≡ start opening
   pub all-free : (r : ℕ) → getD opening r free ≡ free
   pub below : (p : ℕ) → starts? (entry (m .blocks) p) ≡ true → p < size m
-  pub words : (p : ℕ) → p < size m → Word (second (instr m p))
+  pub words : (p : ℕ) → p < size m → Word (secondWord (instr m p))
   pub kept : Keeps L m
 
-second-cond : (b : Bool) (x y : Kind) → Word (second x) → Word (second y) → Word (second (cond b x y))
+second-cond : (b : Bool) (x y : Kind) → Word (secondWord x) → Word (secondWord y) → Word (secondWord (cond b x y))
 second-cond true x y h k = h
 second-cond false x y h k = k
 
 -- the constant of an instruction is that of its words, or 0
-second-by : (op : ℕ) (a b c : Register) (n : ℕ) → Word n → Word (second (kindBy op a b c n))
+second-by : (op : ℕ) (a b c : Register) (n : ℕ) → Word n → Word (secondWord (kindBy op a b c n))
 second-by op a b c n h =
     second-cond (eqb op 0) (Move Green a n) _ h
     (second-cond (eqb op 1) (Move Blue a n) _ h
@@ -64,7 +64,7 @@ word-cond : (b : Bool) (n : ℕ) → Word n → Word (cond b n 0)
 word-cond true n h = h
 word-cond false n h = omega arith
 
-second-of : (v n : ℕ) → Word n → Word (second (kindOf v n))
+second-of : (v n : ℕ) → Word n → Word (secondWord (kindOf v n))
 second-of v n h =
     let op : ℕ = operation v % 16 in
     second-by op (named (uses op 8) (fieldA v)) (named (uses op 4) (fieldB v)) (named (uses op 2) (fieldC v)) (cond (uses op 1) n 0) (word-cond (uses op 1) n h)
@@ -116,7 +116,7 @@ module _ (L : Limits) (ws : List ℕ) (wide : AreWords ws) (H : Passes L ws) whe
         below = below;
         words = λ p l.
             let k : p < word ws 0 = subst (λ n. p < n) many l in
-            subst⁻¹ (λ i. Word (second i)) (getD-map-counting (kindAt ws) 0 (word ws 0) p p Halt k (omega arith))
+            subst⁻¹ (λ i. Word (secondWord i)) (getD-map-counting (kindAt ws) 0 (word ws 0) p p Halt k (omega arith))
             (second-of (word ws (2 + 2 * p)) (word ws (2 + 2 * p + 1)) (wide (2 + 2 * p + 1)));
         kept = H .2;
       }

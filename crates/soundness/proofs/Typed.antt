@@ -10,7 +10,7 @@ use lib.Dec.{eqb, ltb}
 use lib.ListN.{length, getD}
 use Rattle.std.proofs.shelf.Tests.{and-from, eq-eqb, ne-eqb, lt-ltb, not-from-false}
 use Rattle.memory.specs.Cells.{replaced}
-use Rattle.isa.specs.Words.{alu, second}
+use Rattle.isa.specs.Words.{alu, secondWord}
 use Rattle.machine.specs.declared.queue.Pair.{Pair}
 use Rattle.machine.specs.declared.ends.Report.the-variants.{CountersDiffer, StoreDiffers, Destination, Queue, Outside}
 use Rattle.machine.specs.declared.ends.End.the-variants.{NoSuchCell, Halted}
@@ -203,7 +203,7 @@ module _ (L : Limits) (room : L .queue ≤ 16) (m : Module) (P : Passed L m) (S 
       fine-need (Onward m (next i S .notes)) (zero? (s .destination)) Destination (fall x s) (is-zero (s .destination) e)
       (fall-fine i known F (withPlace s (suc (s .green)) (suc (s .blue)) x) refl refl V)
 
-  exec-fine : (w : ℕ → Bool) (i : Kind) → static m (suc (s .green)) ≡ enter (entry (m .blocks) (suc (s .green))) (next i S) → Word (second i) →
+  exec-fine : (w : ℕ → Bool) (i : Kind) → static m (suc (s .green)) ≡ enter (entry (m .blocks) (suc (s .green))) (next i S) → Word (secondWord i) →
       Rule L m (s .green) i S → Fine (Onward m (next i S .notes)) (exec w i s)
   exec-fine w (mov c a n) k q R =
       fall-fine (mov c a n) k (R .falls refl) _ refl refl (put-means S s W a _ n (suc (s .green)) (suc (s .blue)) (λ D u. num-val D n q))

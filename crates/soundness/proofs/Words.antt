@@ -7,7 +7,7 @@ use lib.Dec.{eqb, ltb}
 use lib.ListN.{length, getD, set}
 use Rattle.std.proofs.shelf.Tests.{ltb-true}
 use Rattle.memory.specs.Cells.{replaced}
-use Rattle.isa.specs.Words.{alu, second}
+use Rattle.isa.specs.Words.{alu, secondWord}
 use Rattle.isa.specs.declared.kinds.Colour.the-variants.{Green, Blue}
 use Rattle.isa.specs.declared.kinds.Arithmetic.{Arithmetic}
 use Rattle.isa.specs.declared.kinds.Arithmetic.the-variants.{Add, Sub, Mul, Lt}
@@ -107,7 +107,7 @@ module _ (s : State) (W : Words s) where
       goes-need Words (zero? (s .destination)) Destination (need (not (some? (s .queue))) Queue (stop Halted)) λ _.
       goes-need Words (not (some? (s .queue))) Queue (stop Halted) λ _. tt
 
-  exec-words : (w : ℕ → Bool) (i : Kind) → Word (second i) → Goes Words (exec w i s)
+  exec-words : (w : ℕ → Bool) (i : Kind) → Word (secondWord i) → Goes Words (exec w i s)
   exec-words w (Move c a n) k = put-words a n k
   exec-words w (Copy a b) k = put-words a (reg s b) (W .regs (b .number))
   exec-words w (Arith o a b c) k = put-words a _ (alu-word o (reg s b) (reg s c))
@@ -123,7 +123,7 @@ module _ (s : State) (W : Words s) where
 
 -- each constant of the code is a word
 abbrev pub Constants : List Kind → Type 0
-Constants code = (p : ℕ) → p < length code → Word (second (getD code p Halt))
+Constants code = (p : ℕ) → p < length code → Word (secondWord (getD code p Halt))
 
 -- one step
 pub act-words : (w : ℕ → Bool) (code : List Kind) → Constants code → (s : State) → Words s → Goes Words (act w code s)
