@@ -48,7 +48,7 @@ ranTo s code r = record {
 }
 
 -- run: n steps, or those to the end; the steps taken, and the end
-abbrev goes : ℕ → Model → Loaded → Answered (ℕ × End)
+abbrev pub goes : ℕ → Model → Loaded → Answered (ℕ × End)
 goes n s x =
     let r : Run = after (s .cells .writable) (x .code) (x .run) n in
     (Ok (r .steps - x .run .steps, r .end), ranTo s (x .code) r)
@@ -65,12 +65,12 @@ abbrev pub runs : ℕ → Model → Answered (ℕ × End)
 runs n s = runsAt n s (s .loaded)
 
 -- strike: one latch set; the number of its bits that changed
-abbrev hit : Place → ℕ → Model → Loaded → Option ℕ → Answered ℕ
+abbrev pub hit : Place → ℕ → Model → Loaded → Option ℕ → Answered ℕ
 hit p v s x None = refused NoSuchPlace s
 hit p v s x (Some old) =
     (Ok (ones (bitXor old v)), withLoaded s (record { code = x .code; run = record { state = struck p v (x .run .state); end = x .run .end; steps = x .run .steps } }))
 
-abbrev strikesPlace : ℕ → Model → Loaded → Option Place → Answered ℕ
+abbrev pub strikesPlace : ℕ → Model → Loaded → Option Place → Answered ℕ
 strikesPlace v s x None = refused NoSuchPlace s
 strikesPlace v s x (Some p) = hit p v s x (latch p (x .run .state))
 
