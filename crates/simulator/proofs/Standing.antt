@@ -23,7 +23,7 @@ use Rattle.rules.specs.Limits.{in-force}
 use Rattle.rules.specs.Words.{moduleOf, Passes}
 use Rattle.soundness.specs.Strikes as strikes
 use Rattle.soundness.specs.Strikes.{Word as IsWord, Reached, begun, stepped, struckAt}
-use Rattle.soundness.specs.Finding.{AreWords, Outcomes}
+use Rattle.soundness.specs.Finding.{AreWords, AreCells, Outcomes}
 use Rattle.soundness.proofs.Passed.{passes-passed}
 use Rattle.soundness.proofs.Words.{reached-words}
 use Rattle.soundness.proofs.Finding.{finding}
@@ -46,7 +46,7 @@ use Rattle.simulator.proofs.Striking.{placed, struck-is, cells-kept, split, Lo
 record Held (w : ℕ → Bool) (l : Since) (cells : Cells) (x : Loaded) : Type 0 where
   wide : AreWords (l .words)
   passes : Passes in-force (l .words)
-  words : (a : ℕ) → IsWord (l .cells a)
+  words : AreCells (l .cells)
   code : x .code ≡ moduleOf (l .words) .code
   hits : List strikes.Strike
   count : length hits ≡ l .strikes
@@ -60,7 +60,7 @@ Holds w l cells (Some x) = Held w l cells x
 
 record Stands (w : ℕ → Bool) (l : Since) (t : Model) : Type 0 where
   same : t .cells .writable ≡ w
-  words : (a : ℕ) → IsWord (t .cells .word a)
+  words : AreCells (t .cells .word)
   held : Holds w l (t .cells) (t .loaded)
 
 -- steps of a run that strikes may have hit
@@ -85,11 +85,11 @@ is-going (Reported r) h = let z : _≡_ {A = ℕ} 0 1 = cc in absurd (omega arit
 one-up : (n : ℕ) → suc n ≡ n + 1
 one-up n = omega arith
 
-cells-words : (w : ℕ → Bool) (l : Since) (hits : List strikes.Strike) (x : machine.Run) → AreWords (l .words) → Passes in-force (l .words) → ((a : ℕ) → IsWord (l .cells a)) →
-    Reached w (moduleOf (l .words) .code) (l .cells) hits x → (a : ℕ) → IsWord (x .state .cells a)
+cells-words : (w : ℕ → Bool) (l : Since) (hits : List strikes.Strike) (x : machine.Run) → AreWords (l .words) → Passes in-force (l .words) → AreCells (l .cells) →
+    Reached w (moduleOf (l .words) .code) (l .cells) hits x → AreCells (x .state .cells)
 cells-words w l hits x wide passes words r = reached-words (passes-passed in-force (l .words) wide passes .words) words r .cells
 
-module _ (w : ℕ → Bool) (l : Since) (mine : Cells) (same : mine .writable ≡ w) (words : (a : ℕ) → IsWord (mine .word a)) where
+module _ (w : ℕ → Bool) (l : Since) (mine : Cells) (same : mine .writable ≡ w) (words : AreCells (mine .word)) where
   abbrev at : Option Loaded → Model
   at o = record { cells = mine; loaded = o }
 
@@ -107,9 +107,9 @@ module _ (w : ℕ → Bool) (l : Since) (mine : Cells) (same : mine .writable �
   }
 
   -- a word stored leaves words
-  stored-words : (a v : ℕ) → IsWord v → (b : Bool) (x : ℕ) → IsWord (cond b (replaced (mine .word) a v) (mine .word) x)
-  stored-words a v k b x =
-      split (λ (f : ℕ → ℕ). IsWord (f x)) b (replaced (mine .word) a v) (mine .word) (λ _. split IsWord (eqb x a) v (mine .word x) (λ _. k) (λ _. words x)) (λ _. words x)
+  stored-words : (a v : ℕ) → IsWord v → (b : Bool) → AreCells (cond b (replaced (mine .word) a v) (mine .word))
+  stored-words a v k b x h =
+      split (λ (f : ℕ → ℕ). IsWord (f x)) b (replaced (mine .word) a v) (mine .word) (λ _. split IsWord (eqb x a) v (mine .word x) (λ _. k) (λ _. words x h)) (λ _. words x h)
 
   put-stands : (a v : ℕ) → IsWord v → (o : Option Loaded) → Holds w l mine o → Stands w l (puts a v (at o) .1)
   put-stands a v k (Some x) h = still (Some x) h

@@ -6,8 +6,7 @@ use Prim.Native.Nat.{ℕ, _+_, _≤_}
 use Rattle.std.specs.declared.option.Option.{Option}
 use Rattle.std.specs.declared.option.Option.the-variants.{Some, None}
 use Rattle.rules.specs.Words.{moduleOf}
-use Rattle.soundness.specs.Strikes.{Word as IsWord}
-use Rattle.soundness.specs.Finding.{IsReport, Undisturbed, Found}
+use Rattle.soundness.specs.Finding.{IsReport, Undisturbed, Found, AreCells}
 use Rattle.simulator.specs.declared.call.Answer.{Answer}
 use Rattle.simulator.specs.declared.call.Answer.the-variants.{Done, Unfit, Ran, Struck, Word, Shown, Refused}
 use Rattle.simulator.specs.declared.call.Call.{Call}
@@ -94,4 +93,4 @@ FoundIn w l t (Some x) = RunFound w l t x
 -- memory's contract to say, which speaks of all addresses, but every word that a memory answers is one.)
 abbrev pub FoundAfter : Model → List Call → List Answer → Model → Type 0
 FoundAfter s calls answers t =
-    s .loaded ≡ None → ((a : ℕ) → IsWord (s .cells .word a)) → FoundIn (s .cells .writable) (since nothing s calls answers) t (t .loaded)
+    s .loaded ≡ None → AreCells (s .cells .word) → FoundIn (s .cells .writable) (since nothing s calls answers) t (t .loaded)
