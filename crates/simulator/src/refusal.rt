@@ -14,6 +14,8 @@ pub enum Refusal {
     TooManySteps,
     // No such latch.
     NoSuchPlace,
+    // A cell that is not writable.
+    NoSuchCell,
 }
 
 impl Refusal {
@@ -27,6 +29,7 @@ impl Refusal {
             Refusal::BadCount => 12,
             Refusal::TooManySteps => 13,
             Refusal::NoSuchPlace => 14,
+            Refusal::NoSuchCell => 15,
         }
     }
 }

@@ -4,7 +4,7 @@ use mathlib.Core.Logic.{inl, inr}
 use mathlib.Core.Bool.{Bool, false}
 use mathlib.Core.List.{List, [], _∷_}
 use Prim.Native.Nat.{ℕ, zero, suc, _<_, _≤_}
-use native.Mathlib.Nat.{not-suc-le-zero, le-of-suc-le-suc}
+use native.Mathlib.Nat.{zero-add, not-suc-le-zero, le-of-suc-le-suc}
 use native.Mathlib.Omega.{arith}
 use lib.Dec.{lit≤}
 use lib.ListN.{length, length-append}
@@ -19,7 +19,8 @@ use Rattle.machine.specs.declared.ends.End.{End}
 use Rattle.machine.specs.declared.ends.End.the-variants.{Going, Halted, NoSuchCell, Reported}
 use Rattle.machine.specs.Ends.{going?}
 use Rattle.machine.specs.Pairs.{overlay}
-use Rattle.machine.specs.Machine.{Outcome, stop, go, act, settled, Run, counted, step, after, leaving, begin}
+use Rattle.machine.specs.Machine.{Outcome, stop, go, act, settled, Run, counted, step, after, leaving, begin, started}
+use Rattle.machine.proofs.Accounts.{lawful}
 use Rattle.rules.specs.Limits.{Limits}
 use Rattle.rules.specs.Notes.{Colour, green, Kind}
 use Rattle.rules.specs.Module.{Module, size, instr, static}
@@ -32,7 +33,6 @@ use Rattle.soundness.proofs.Outcomes.{Goes, Fine, fine-quiet, Follow}
 use Rattle.soundness.proofs.Words.{Words, reached-words}
 use Rattle.soundness.proofs.Typed.{Onward}
 use Rattle.soundness.proofs.Agree.{Agree, act-follow}
-use Rattle.soundness.proofs.Stores.{made-stored}
 use Rattle.soundness.proofs.Struck.{other, agree-same, agree-less, strike-agree}
 use Rattle.soundness.proofs.Unstruck.{step-going, step-ended, run, here, behind, Stands, lasts-more, Comes, advance, stands-first, stands-fine, stands-goes, stands-comes, never-reports}
 
@@ -67,13 +67,13 @@ module _ (m : Module) (w : ℕ → Bool) (cells : ℕ → ℕ) (k : Colour) wher
   reported x U A r =
       let old : List Pair = stores w (m .code) cells (x .steps) in
       let new : List Pair = leaving (run m w cells (x .steps) .state) (run m w cells (suc (x .steps)) .state) in
-      let h = made-stored w (m .code) cells (x .steps) in
-      let e : length old ≡ x .state .stores = sym (h .0) ∙ A .stores in
+      let h = lawful w (m .code) (started cells) .accounts (x .steps) in
+      let e : length old ≡ x .state .stores = sym (zero-add (length old)) ∙ sym (h .number) ∙ A .stores in
       record {
         lasts = lasts-more m w cells (x .steps) U;
         a-report = report-number r;
         few-stores = simp length-append (omega arith);
-        cells-then = sym (A .cells) ∙ h .1 ∙ ap (λ l. overlay l cells) (sym (take-at old new (x .state .stores) e));
+        cells-then = sym (A .cells) ∙ h .cells ∙ ap (λ l. overlay l cells) (sym (take-at old new (x .state .stores) e));
       }
 
   -- the unstruck step comes to o, the struck one to p

@@ -2,7 +2,6 @@ pub mod Rules
 pub mod Passed
 pub mod Outcomes
 pub mod Words
-pub mod Stores
 pub mod Values
 pub mod Typed
 pub mod Agree

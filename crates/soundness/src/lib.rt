@@ -13,7 +13,8 @@ fn queue_limit() -> u8
 // Carries the theorem on strikes. Answers how many pairs the check may let pend for it: the machine's queue must have
 // room for them, or else a run that nothing struck would end in a report.
 pub fn strikes_are_found() -> u8
-    ensures { λ r. ⌜ Finding r ⌝ }
+    ensures limit { λ r. ⌜ r ≡ in-force .queue ⌝ }
+    ensures found { λ r. ⌜ Finding r ⌝ }
 {
     queue_limit()
 }

@@ -3,7 +3,7 @@ ghost use mathlib.Core.Path.{_≡_};
 ghost use Rattle.std.specs.Results.{Cases};
 ghost use Rattle.rules.specs.Words.{moduleOf};
 ghost use Rattle.checker.specs.Passing.{words-of};
-ghost use Rattle.simulator.specs.Calls.{loads, runs, strikes, shows};
+ghost use Rattle.simulator.specs.Calls.{loads, puts, runs, strikes, looks, probes, shows, clears};
 ghost use Rattle.simulator.specs.Model.{fresh, model};
 use super::Simulator;
 use crate::fill::fill_code;
@@ -118,6 +118,53 @@ impl<M: Memory> Simulator<M> {
         write(&mut run.latches, place, value);
         self.run = Some(run);
         Ok((old ^ value).count_ones())
+    }
+
+    // Stores a word in a cell, before a load.
+    pub fn put(&mut self, address: u32, word: u32) -> Result<(), Refusal>
+        ensures answer { λ r. ⌜ r ≡ puts address word (model cells (now (self .entry))) .0 ⌝ }
+        ensures after { λ _. ⌜ model cells (now (self .exit)) ≡ puts address word (model cells (now (self .entry))) .1 ⌝ }
+    {
+        let None = self.run else {
+            return Err(Refusal::NotIdle);
+        };
+        match self.memory.store(address, word) {
+            Ok(()) => Ok(()),
+            Err(_) => Err(Refusal::NoSuchCell),
+        }
+    }
+
+    // The word at an address; a memory may cache while it is read, but its meaning stays.
+    pub fn look(&mut self, address: u32) -> u32
+        ensures answer { λ r. ⌜ r ≡ looks address (model cells (now (self .entry))) ⌝ }
+        ensures after { λ _. ⌜ model cells (now (self .exit)) ≡ model cells (now (self .entry)) ⌝ }
+    {
+        self.memory.load(address)
+    }
+
+    // One latch, under way or ended.
+    pub fn probe(&self, place: u32) -> Result<u32, Refusal>
+        ensures { λ r. ⌜ r ≡ probes place (model cells (now (self .entry))) ⌝ }
+    {
+        let Some(run) = self.run else {
+            return Err(Refusal::NotUnderWay);
+        };
+        let Some(place) = Place::from_number(place) else {
+            return Err(Refusal::NoSuchPlace);
+        };
+        read(&run.latches, place).ok_or(Refusal::NoSuchPlace)
+    }
+
+    // Drops what is loaded.
+    pub fn clear(&mut self) -> Result<(), Refusal>
+        ensures answer { λ r. ⌜ r ≡ clears (model cells (now (self .entry))) .0 ⌝ }
+        ensures after { λ _. ⌜ model cells (now (self .exit)) ≡ clears (model cells (now (self .entry))) .1 ⌝ }
+    {
+        let Some(_) = self.run else {
+            return Err(Refusal::NotUnderWay);
+        };
+        self.run = None;
+        Ok(())
     }
 
     // The memory, as the host may see it meanwhile.
