@@ -11,3 +11,4 @@ pub mod Noting
 pub mod Checking
 pub mod Passing
 pub mod Bytes
+pub mod Encoding

@@ -24,6 +24,7 @@ use Rattle.translation.proofs.Placing.{Line, rising}
 use Rattle.translation.proofs.Standing.{left, standing, whole-blocks}
 use Rattle.translation.proofs.Meeting.{fresh-is, live}
 use Rattle.translation.proofs.Noting.{Fair, Below, check-halt}
+use Rattle.translation.proofs.Encoding.{readable}
 use Rattle.translation.proofs.Checking.{At, To, settled, set-to, check-plan, fine-left}
 
 module _ (P : Plan) (ok : Within in-force P) where
@@ -81,6 +82,7 @@ code-checked P ok = record {
   blocks-are = whole-blocks P;
   fields = everywhere P ok (λ i. registers i ≤ 32) (omega arith) λ q h. all-fair P ok q h .fields;
   numbers = everywhere P ok (λ i. Word (immediate i)) (omega arith) λ q h. all-fair P ok q h .word;
+  readable = λ p. readable (instr (compiled P) p) (everywhere P ok (λ i. registers i ≤ 32) (omega arith) (λ q h. all-fair P ok q h .fields) p);
   starts = blocks-ok P;
   rules = λ L l q h. all-fair P ok q h .rule L l;
 }

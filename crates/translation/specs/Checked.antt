@@ -1,10 +1,12 @@
 -- What is promised of the module of a plan: its size, its layout, and that it keeps the rules of the check.
+use mathlib.Core.Bool.{true}
 use mathlib.Core.List.{List, [], _∷_}
 use mathlib.Core.Path.{_≡_}
 use Prim.Native.Nat.{ℕ, suc, _<_, _≤_, _+_, _*_, _^_}
 use lib.ListN.{length, getD}
 use Rattle.isa.specs.Registers.{registers}
-use Rattle.isa.specs.Words.{secondWord}
+use Rattle.isa.specs.Words.{firstWord, secondWord, wellFormed, kindOf}
+use Rattle.rules.specs.Notes.{Kind}
 use Rattle.rules.specs.Limits.{Limits}
 use Rattle.rules.specs.Cards.{Block, Card, free}
 use Rattle.rules.specs.Module.{Module, size, instr, Keeps}
@@ -25,6 +27,10 @@ abbrev pub Blocks : ℕ → List Block → Type 0
 Blocks n [] = ⊥
 Blocks n (b ∷ bs) = (b .start ≡ 0) × (AllFree (b .card)) × (0 < n) × Rising 1 n bs
 
+-- the words of an instruction are read as it, and are well formed
+abbrev pub Readable : Kind → Type 0
+Readable i = (kindOf (firstWord i) (secondWord i) ≡ i) × (wellFormed (firstWord i) (secondWord i) ≡ true)
+
 pub record Checked (P : Plan) : Type 0 where
   -- as many instructions as the plan needs
   pub size-is : size (compiled P) ≡ need P
@@ -34,6 +40,7 @@ pub record Checked (P : Plan) : Type 0 where
   pub fields : (p : ℕ) → registers (instr (compiled P) p) ≤ 32
   -- the numbers that instructions hold are words
   pub numbers : (p : ℕ) → secondWord (instr (compiled P) p) < 2 ^ 32
+  pub readable : (p : ℕ) → Readable (instr (compiled P) p)
   pub starts : Blocks (size (compiled P)) (compiled P .blocks)
   -- every rule of the check is kept, however long a queue is allowed
   pub rules : (L : Limits) → 1 ≤ L .queue → Keeps L (compiled P)
