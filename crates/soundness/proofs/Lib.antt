@@ -9,3 +9,4 @@ pub mod Agree
 pub mod Struck
 pub mod Unstruck
 pub mod Finding
+pub mod Worked

@@ -1,6 +1,7 @@
 // Checked code under strikes: a word of the machine that changes by itself either leaves the run as it is, or is found.
 ghost use mathlib.Core.Path.{_≡_};
 ghost use Rattle.soundness.specs.Finding.{Finding};
+ghost use Rattle.soundness.specs.Worked.{WorkedRuns};
 
 // The pairs that the machine's queue has room for.
 fn queue_room() -> u8
@@ -15,4 +16,18 @@ pub fn strikes_are_found() -> u8
     ensures { λ r. ⌜ Finding r ⌝ }
 {
     queue_room()
+}
+
+// The steps of the worked module.
+fn steps_taken() -> u8
+    ensures { λ r. ⌜ r ≡ 7 ⌝ }
+{
+    7
+}
+
+// Carries the worked examples of runs, unstruck and struck. Answers how many steps the worked module takes.
+pub fn worked_runs() -> u8
+    ensures { λ r. ⌜ WorkedRuns r ⌝ }
+{
+    steps_taken()
 }
