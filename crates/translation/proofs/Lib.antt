@@ -1,0 +1,6 @@
+pub mod Twins
+pub mod Placing
+pub mod Standing
+pub mod Values
+pub mod Doubled
+pub mod Running

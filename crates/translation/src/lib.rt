@@ -1,0 +1,2 @@
+// Code for plans: what it is, that it keeps the rules of the check, and that its run does what the plan means.
+pub mod sample;
