@@ -1,6 +1,1 @@
-pub mod Entries
-pub mod Views
-pub mod Meetings
-pub mod Entering
-pub mod Blocks
 pub mod Halting

@@ -2,7 +2,7 @@
 ghost use Prim.Native.Nat.{_≤_};
 ghost use Rattle.std.specs.Of.Vec.{vec-cap};
 ghost use Rattle.rules.specs.Limits.{in-force};
-use crate::state::State;
+use blocks::state::State;
 use isa::card::Block;
 
 // Room for the check of any module, made once.

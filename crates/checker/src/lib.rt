@@ -1,9 +1,4 @@
-// The check that decides the rules, over shared expressions.
+// The check of modules, and the pass that it gives.
 pub mod check;
 pub mod fault;
-mod node;
-mod note;
-mod notes;
 pub mod pass;
-mod state;
-mod table;

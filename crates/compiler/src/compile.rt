@@ -1,7 +1,7 @@
 // Compiling a text.
 ghost use mathlib.Core.Path.{_≡_};
 ghost use Prim.Native.Nat.{ℕ, _+_, _*_, _<_, _≤_};
-ghost use lib.ListN.{length};
+ghost use lib.ListN.{length, getD};
 ghost use Rattle.std.specs.Of.Vec.{vec-items, vec-len, vec-cap};
 ghost use Rattle.std.specs.Vec.{refused};
 ghost use Rattle.std.specs.declared.result.Result.the-variants.{Err};
@@ -86,6 +86,16 @@ impl Compiler {
         ensures { λ r. ⌜ now r ≡ now (self .entry) .reader .plan ⌝ }
     {
         self.reader.plan()
+    }
+
+    // The width of the widest expression of the plan that was read last.
+    pub fn widest(&self) -> u32
+        ensures { λ r. ⌜ ((k : ℕ) → k < vec-len (now (self .entry) .widths) → getD (vec-items (now (self .entry) .widths)) k 0 ≤ r) ⌝ }
+    {
+        match self.widths.iter().copied().max() {
+            Some(widest) => widest,
+            None => 0,
+        }
     }
 
     // The first fault of a text for an output of so many words: its length, the output's, what the

@@ -3,3 +3,4 @@ pub mod Pairs
 pub mod Queued
 pub mod Machine
 pub mod Views
+pub mod Laws

@@ -20,13 +20,28 @@ pub struct Window<M: Memory> {
     length: u64,
 }
 
+// A window that would pass the last address is refused; the memory comes back.
+#[derive(Drop)]
+pub struct BadWindow<M> {
+    pub memory: M,
+}
+
+impl<M> BadWindow<M> {
+    // The number by which hosts know the refusal.
+    pub fn number(&self) -> u32
+        ensures { λ r. ⌜ r ≡ 12 ⌝ }
+    {
+        12
+    }
+}
+
 impl<M: Memory> Window<M> {
-    // The window, or the memory handed back where start + length passes the last address.
-    pub fn new(under: M, start: u64, length: u64) -> Result<Window<M>, M>
-        ensures { λ r. ⌜ Cases r (λ w. (start + length ≤ 2 ^ 32) × (w .under ≡ under) × (w .start ≡ start) × (w .length ≡ length)) (λ m. (2 ^ 32 < start + length) × (m ≡ under)) ⌝ }
+    // The window, exactly where start + length does not pass the last address.
+    pub fn new(under: M, start: u64, length: u64) -> Result<Window<M>, BadWindow<M>>
+        ensures { λ r. ⌜ Cases r (λ w. (start + length ≤ 2 ^ 32) × (w .under ≡ under) × (w .start ≡ start) × (w .length ≡ length)) (λ e. (2 ^ 32 < start + length) × (e .memory ≡ under)) ⌝ }
     {
         if start > END || length > END - start {
-            return Err(under);
+            return Err(BadWindow { memory: under });
         }
         Ok(Window {
             under,

@@ -5,3 +5,4 @@ pub mod Slots
 pub mod Starts
 pub mod Layouts
 pub mod Parts
+pub mod Meets

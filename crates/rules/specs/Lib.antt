@@ -7,3 +7,4 @@ pub mod Block
 pub mod Module
 pub mod Part
 pub mod Words
+pub mod Met

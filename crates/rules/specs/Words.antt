@@ -5,7 +5,7 @@ use mathlib.Core.List.{List, map}
 use Prim.Native.Nat.{ℕ, _+_, _-_, _*_, _/_, _%_}
 use native.Mathlib.Nat.{mod-lt}
 use lib.Dec.{eqb, ltb, leb, lit<}
-use lib.ListN.{length}
+use lib.ListN.{length, take}
 use Rattle.std.specs.Iters.{counting}
 use Rattle.std.proofs.shelf.Counted.{length-map-counting}
 use Rattle.isa.specs.Words.{kindOf}
@@ -22,6 +22,10 @@ kindIn ws k = kindOf (word ws (2 * k)) (word ws (2 * k + 1))
 -- the instructions that code words are
 abbrev pub kindsOf : List ℕ → List Kind
 kindsOf ws = map (kindIn ws) (counting 0 (length ws / 2))
+
+-- the instructions of a block's words: no block has more than a module may have
+abbrev pub blockCode : Limits → List ℕ → List Kind
+blockCode L ws = kindsOf (take (2 * L .instructions) ws)
 
 abbrev pub variable : ℕ → Variable
 variable n = record { number = n % 32; low = mod-lt n (lit< tt) }

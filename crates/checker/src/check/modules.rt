@@ -14,7 +14,7 @@ use super::Checker;
 use crate::fault::CheckFault;
 use crate::fault::CheckFaultFromLayout;
 use crate::pass::Pass;
-use crate::state::State;
+use blocks::state::State;
 use isa::layout::Shape;
 use isa::layout::block_at;
 use isa::layout::examine;

@@ -31,10 +31,16 @@ impl Code {
         self.instructions.clear();
     }
 
+    fn count(&self) -> usize
+        ensures { λ r. ⌜ r ≡ vec-len (now (self .entry) .instructions) ⌝ }
+    {
+        self.instructions.len()
+    }
+
     fn has_room(&self) -> bool
         ensures { λ r. ⌜ r ≡ ltb (vec-len (now (self .entry) .instructions)) 1024 ⌝ }
     {
-        INSTRUCTIONS as usize > self.instructions.len()
+        self.count() < INSTRUCTIONS as usize
     }
 
     fn at(&self, place: usize) -> Instruction
@@ -59,7 +65,7 @@ impl Code {
     pub fn len(&self) -> usize
         ensures { λ r. ⌜ r ≡ length (kinds (now (self .entry))) ⌝ }
     {
-        self.instructions.len()
+        self.count()
     }
 
     // The instruction with this number.
@@ -67,7 +73,7 @@ impl Code {
         ensures few { λ _. ⌜ length (kinds (now (self .entry))) ≤ 1024 ⌝ }
         ensures cases { λ r. ⌜ Cases r (length (kinds (now (self .entry))) ≤ place) (λ i. (place < length (kinds (now (self .entry)))) × (i .kind ≡ getD (kinds (now (self .entry))) place Halt)) ⌝ }
     {
-        if place >= self.instructions.len() {
+        if place >= self.count() {
             return None;
         }
         Some(self.at(place))

@@ -6,6 +6,7 @@ ghost use Rattle.memory.specs.Cells.{Cells};
 ghost use Rattle.isa.specs.Registers.{registers};
 ghost use Rattle.machine.specs.Ends.{going?};
 ghost use Rattle.machine.specs.Machine.{started, seen, commit, exec, act, step, after, settled};
+ghost use Rattle.machine.specs.Laws.{Lawful};
 ghost use Rattle.machine.specs.Views.{stateOf, runOf, kinds, queued};
 use super::Run;
 use crate::code::Code;
@@ -158,6 +159,7 @@ impl Run {
         ensures does { λ _. ⌜ runOf (now (self .exit)) (cells (now (memory .exit))) ≡ after (cells (now (memory .entry)) .writable) (kinds (now (code .entry))) (runOf (now (self .entry)) (cells (now (memory .entry)))) (min n (1000000000 - now (self .entry) .steps)) ⌝ }
         ensures same { λ _. ⌜ cells (now (memory .exit)) .writable ≡ cells (now (memory .entry)) .writable ⌝ }
         ensures taken { λ r. ⌜ now (self .entry) .steps + r ≡ now (self .exit) .steps ⌝ }
+        ensures laws { λ _. ⌜ Lawful (cells (now (memory .entry)) .writable) (kinds (now (code .entry))) (runOf (now (self .entry)) (cells (now (memory .entry)))) ⌝ }
     {
         let most = self.allowed(n);
         let mut taken = 0;

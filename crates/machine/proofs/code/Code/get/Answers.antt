@@ -10,8 +10,8 @@ use Rattle.isa.specs.declared.kinds.Kind.the-variants.{Halt}
 use Rattle.machine.proofs.Stored.{kinds-number}
 use Rattle.machine.proofs.code.Code.get.Needs as need
 
-pub returns-then-place-len : need.returns-then-place-len
-returns-then-place-len c = let n = kinds-number (c .args .self .now) in record { few = omega arith; cases = omega arith }
+pub returns-then-place-count : need.returns-then-place-count
+returns-then-place-count c = let n = kinds-number (c .args .self .now) in record { few = omega arith; cases = omega arith }
 
 pub returns : need.returns
 returns c =

@@ -3,4 +3,4 @@ use Rattle.machine.proofs.Stored.{kinds-number}
 use Rattle.machine.proofs.code.Code.len.Needs as need
 
 pub returns : need.returns
-returns c = c .len .ensures ∙ sym (kinds-number (c .args .self .now))
+returns c = c .count .ensures ∙ sym (kinds-number (c .args .self .now))

@@ -5,6 +5,7 @@ use Prim.Native.Nat.{_+_, _-_, min}
 use Rattle.machine.specs.Machine.{step, after}
 use Rattle.machine.specs.Views.{runOf, kinds}
 use Rattle.machine.proofs.Runs.{stays, further}
+use Rattle.machine.proofs.Accounts.{lawful}
 use Rattle.machine.proofs.run.Run.advance.Needs as need
 
 pub loop-taken-again : need.loop-taken-again
@@ -38,4 +39,15 @@ returns-else-is-going g c =
           ∙ further w code from k rest ∙ ap (after w code from) all;
       same = inv .3;
       taken = sym (inv .1);
+      laws = lawful w code from;
     }
+
+pub returns-after-loop-taken : need.returns-after-loop-taken
+returns-after-loop-taken g c =
+    let m = g .M·Memory in
+    let w = m .cells (c .args .memory .now) .writable in
+    let code = kinds (c .args .code .now) in
+    let from = runOf (c .args .self .now) (m .cells (c .args .memory .now)) in
+    let inv = c .loop-taken .inv in
+    let all : c .loop-taken .taken ≡ min (c .args .n) (1000000000 - c .args .self .now .steps) = omega (arith, c .allowed-most .ensures) in
+    record { does = inv .4 ∙ ap (after w code from) all; same = inv .3; taken = sym (inv .1); laws = lawful w code from }

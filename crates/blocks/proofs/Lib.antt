@@ -1,0 +1,5 @@
+pub mod Entries
+pub mod Views
+pub mod Meetings
+pub mod Entering
+pub mod Blocks

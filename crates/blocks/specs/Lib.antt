@@ -1,0 +1,4 @@
+pub mod Trees
+pub mod Reach
+pub mod View
+pub mod Meeting

@@ -1,0 +1,11 @@
+pub mod Rules
+pub mod Passed
+pub mod Outcomes
+pub mod Words
+pub mod Stores
+pub mod Values
+pub mod Typed
+pub mod Agree
+pub mod Struck
+pub mod Unstruck
+pub mod Finding
