@@ -4,7 +4,7 @@ use mathlib.Core.Path.{_≡_}
 use Prim.Native.Nat.{ℕ, suc, _<_, _≤_, _+_, _*_, _^_}
 use lib.ListN.{length, getD}
 use Rattle.isa.specs.Registers.{registers}
-use Rattle.isa.specs.Words.{second}
+use Rattle.isa.specs.Words.{secondWord}
 use Rattle.rules.specs.Limits.{Limits}
 use Rattle.rules.specs.Cards.{Block, Card, free}
 use Rattle.rules.specs.Module.{Module, size, instr, Keeps}
@@ -33,7 +33,7 @@ pub record Checked (P : Plan) : Type 0 where
   -- registers are 0 to 31
   pub fields : (p : ℕ) → registers (instr (compiled P) p) ≤ 32
   -- the numbers that instructions hold are words
-  pub numbers : (p : ℕ) → second (instr (compiled P) p) < 2 ^ 32
+  pub numbers : (p : ℕ) → secondWord (instr (compiled P) p) < 2 ^ 32
   pub starts : Blocks (size (compiled P)) (compiled P .blocks)
   -- every rule of the check is kept, however long a queue is allowed
   pub rules : (L : Limits) → 1 ≤ L .queue → Keeps L (compiled P)
