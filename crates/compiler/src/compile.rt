@@ -13,7 +13,9 @@ use crate::lines::Lines;
 use crate::tables::Compiler;
 use crate::twin::Twin;
 use crate::width::measure;
+use crate::write::count_blocks;
 use crate::write::write_module;
+use isa::limits::BLOCKS;
 use isa::limits::INSTRUCTIONS;
 use isa::limits::MODULE_WORDS;
 use plan::limits::TEXT;
@@ -117,11 +119,17 @@ impl Compiler {
         judge_size(plan)
     }
 
-    // Writes the module of the plan that was read; answers the number of its words.
+    // Writes the module of the plan that was read; answers the number of its words. The room and the
+    // size are judged before; that the lines have no more blocks than the plan's REPEATs say is tested.
     fn build(&mut self, out: &mut [u32]) -> usize {
         let plan = self.reader.plan();
         self.lines.select(self.halves.as_mut_slice(), plan.nodes(), plan.statements());
-        write_module(out, self.lines.lines.as_slice(), self.lines.entry)
+        let lines = self.lines.lines.as_slice();
+        let behind = self.lines.entry;
+        if out.len() < MODULE_WORDS || count_blocks(lines, behind) > BLOCKS as usize {
+            return 0;
+        }
+        write_module(out, lines, behind)
     }
 
     // Compiles a text: writes the words of a module to the output, leaves the rest of it, and answers
