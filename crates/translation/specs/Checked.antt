@@ -5,12 +5,8 @@ use mathlib.Core.Path.{_≡_}
 use Prim.Native.Nat.{ℕ, suc, _<_, _≤_, _+_, _*_, _^_}
 use lib.ListN.{length, getD}
 use Rattle.isa.specs.Registers.{registers}
-<<<<<<< HEAD
 use Rattle.isa.specs.Words.{firstWord, secondWord, wellFormed, kindOf}
 use Rattle.rules.specs.Notes.{Kind}
-=======
-use Rattle.isa.specs.Words.{secondWord}
->>>>>>> exact
 use Rattle.rules.specs.Limits.{Limits}
 use Rattle.rules.specs.Cards.{Block, Card, free}
 use Rattle.rules.specs.Module.{Module, size, instr, Keeps}
@@ -44,10 +40,7 @@ pub record Checked (P : Plan) : Type 0 where
   pub fields : (p : ℕ) → registers (instr (compiled P) p) ≤ 32
   -- the numbers that instructions hold are words
   pub numbers : (p : ℕ) → secondWord (instr (compiled P) p) < 2 ^ 32
-<<<<<<< HEAD
   pub readable : (p : ℕ) → Readable (instr (compiled P) p)
-=======
->>>>>>> exact
   pub starts : Blocks (size (compiled P)) (compiled P .blocks)
   -- every rule of the check is kept, however long a queue is allowed
   pub rules : (L : Limits) → 1 ≤ L .queue → Keeps L (compiled P)
