@@ -12,7 +12,8 @@ use Rattle.isa.specs.Layout.{byte, slotByte}
 use Rattle.rules.specs.Notes.{Colour, green, blue}
 use Rattle.rules.specs.Cards.{free, slot}
 use Rattle.translation.specs.Code.{twice}
-use Rattle.translation.specs.Cards.{variable, twinSlot, slotsFrom, card}
+use Rattle.rules.specs.Words.{variable}
+use Rattle.translation.specs.Cards.{twinSlot, slotsFrom, card}
 use Rattle.translation.proofs.Twins.{half, side}
 use Rattle.compiler.specs.Cards.{twinBytes}
 use Rattle.compiler.specs.Laying.{cardWord}
