@@ -4,12 +4,10 @@ use mathlib.Core.Logic.{_⊎_, inl, inr}
 use lib.Dec.{eqb}
 use mathlib.Core.Bool.{Bool, true, false, cond}
 use mathlib.Core.List.{List, [], _∷_, _++_}
-use Prim.Native.Nat.{ℕ, zero, suc, min, _+_, _*_, _/_, _<_, _≤_}
+use Prim.Native.Nat.{ℕ, zero, suc, min, _+_, _*_, _/_, _<_}
 use native.Mathlib.Omega.{arith}
-use native.Mathlib.Numerals.{add-one}
 use lib.ListN.{length, getD, take, replicate}
 use Rattle.std.specs.declared.option.Option.{Option}
-use Rattle.std.specs.declared.option.Option.the-variants.{Some, None}
 use Rattle.std.proofs.shelf.Lists.{getD-append-left, getD-push, getD-past, length-push, length-take-le, length-take, getD-take, length-map, take-more, getD-map}
 use Rattle.std.proofs.shelf.Tests.{cases-eq, cases-order, eq-eqb, ne-eqb}
 use Rattle.std.proofs.shelf.Counted.{length-map-counting, getD-map-counting}
@@ -19,12 +17,12 @@ use Rattle.rules.specs.Words.{kindIn, blockCode}
 use Rattle.rules.specs.Expressions.{Expr, var}
 use Rattle.blocks.specs.Reach as code
 use Rattle.blocks.specs.Reach.{NotesBelow, PairsBelow}
-use Rattle.rules.specs.Notes.{Kind, halt, Static, next, Register, Note, note, clear, setNote}
+use Rattle.rules.specs.Notes.{Kind, halt, Static, next, Register, Note, note, clear}
 use Rattle.rules.specs.Cards.{Block, Card, Slot, free, slot, fresh, cardNote}
 use Rattle.rules.specs.Limits.{Limits, in-force}
 use Rattle.rules.proofs.Befores.{before-more}
 use Rattle.blocks.specs.View.{noteIn, viewIn, noteCard}
-use Rattle.rules.specs.Block.{behind, before, keeps?, last?, kept?}
+use Rattle.rules.specs.Block.{before, keeps?, last?, kept?}
 
 nothing-at : (n r : ℕ) → getD (replicate n code.Nothing) r code.Nothing ≡ code.Nothing
 nothing-at zero r = refl

@@ -1,13 +1,13 @@
 -- Looking for the block that starts at a place.
-use mathlib.Core.Path.{_≡_, refl, sym, ap, subst, _∙_}
-use mathlib.Core.Bool.{Bool, true, false, cond}
-use mathlib.Core.List.{List, [], _∷_}
-use Prim.Native.Nat.{ℕ, suc, _<_, _≤_, _+_}
+use mathlib.Core.Path.{_≡_, refl, ap, _∙_}
+use mathlib.Core.Bool.{cond}
+use mathlib.Core.List.{List, []}
+use Prim.Native.Nat.{ℕ, _<_, _+_}
 use lib.Dec.{eqb}
 use lib.ListN.{length, getD, drop}
 use Rattle.std.proofs.shelf.Tests.{eq-eqb, ne-eqb}
 use Rattle.std.proofs.shelf.Lists.{drop-more}
-use Rattle.rules.specs.Cards.{Block, Entry, inside, start, entry}
+use Rattle.rules.specs.Cards.{Block, inside, start, entry}
 
 pub entry-none : (t : ℕ) → entry [] t ≡ inside
 unfolding entry

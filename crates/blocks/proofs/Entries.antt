@@ -1,17 +1,17 @@
 -- The trees of a table's entries: what adding one leaves, and that equal trees are one entry.
 use mathlib.Core.Path.{_≡_, refl, sym, ap, subst, _∙_}
-use mathlib.Core.Bool.{Bool, true, false}
+use mathlib.Core.Bool.{true}
 use mathlib.Core.List.{List, [], _∷_, _++_}
 use mathlib.Core.Logic.{_⊎_, inl, inr}
-use Prim.Native.Nat.{ℕ, zero, suc, max, _<_, _≤_, _+_}
+use Prim.Native.Nat.{ℕ, zero, suc, _<_, _≤_, _+_}
 use native.Mathlib.Omega.{arith}
 use native.Mathlib.Nat.{add-zero}
 use lib.Dec.{eqb}
 use lib.ListN.{length, getD}
 use Rattle.std.proofs.shelf.Lists.{getD-append-left, getD-push, length-push, getD-default}
-use Rattle.std.proofs.shelf.Tests.{cases-lt, eq-eqb, ne-eqb, eqb-true, true≢false}
+use Rattle.std.proofs.shelf.Tests.{cases-lt, eq-eqb, ne-eqb, eqb-true}
 use Rattle.rules.specs.Expressions.{Numeral, none, is, numOf}
-use Rattle.rules.specs.Expressions.{Arithmetic, Expr, num, var, op, load, same?}
+use Rattle.rules.specs.Expressions.{Expr, num, op, load, same?}
 use Rattle.rules.proofs.Sameness.{eq-same, ne-same}
 use Rattle.blocks.specs.Trees.{Id, Node, Number, Variable, Op, Load, at, treeOf, treesFrom, trees, reach, Closed, Once, Kept}
 
@@ -75,9 +75,6 @@ module _ (E : List Expr) (u : Once E) where
   one-entry x y h g e =
       let i = eqb-true (x .index) (y .index) (sym (u (x .index) (y .index) (h, g)) ∙ eq-same (at E x) (at E y) e) in
       ap (λ (n : ℕ). let z : Id = record { index = n } in z) i
-
-  never : (e f : Expr) → _≡_ {A = ℕ} 0 1 → ⊥
-  never e f h = omega arith
 
   -- nodes with one tree are one node
   pub one-node : (m n : Node) → reach m ≤ length E → reach n ≤ length E → treeOf E m ≡ treeOf E n → m ≡ n

@@ -1,7 +1,7 @@
 -- Meeting a card register by register is meeting it.
-use mathlib.Core.Path.{_≡_, refl, sym, ap, subst, fun-ext, _∙_}
+use mathlib.Core.Path.{_≡_, refl, sym, ap, fun-ext, _∙_}
 use mathlib.Core.Bool.{Bool, true, false, cond, _&&_}
-use mathlib.Core.List.{List, [], _∷_, _++_}
+use mathlib.Core.List.{List, [], _∷_}
 use mathlib.Core.Logic.{_⊎_, inl, inr}
 use Prim.Native.Nat.{ℕ, zero, suc, _<_, _≤_, _+_}
 use native.Mathlib.Omega.{arith}
@@ -13,7 +13,7 @@ use Rattle.std.proofs.shelf.Tests.{cases-eq, eq-eqb, ne-eqb}
 use Rattle.std.proofs.shelf.Lists.{drop-more}
 use Rattle.blocks.specs.Trees.{Id, at}
 use Rattle.rules.specs.Expressions.{Expr, num, same?}
-use Rattle.rules.specs.Notes.{Colour, note, Note, Notes, exprOf, has?, upd}
+use Rattle.rules.specs.Notes.{Colour, note, Note, Notes, exprOf, has?}
 use Rattle.rules.specs.Cards.{Variable, Slot, free, slot, Card, chosen, meets?, meetAll?, met?}
 use Rattle.blocks.specs.Meeting.{Seen, sameAs?, meetOne?, firstOnly, seenNext, optIn, seenIn, reachOpt}
 use Rattle.rules.proofs.Sameness.{eq-same}

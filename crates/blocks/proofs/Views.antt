@@ -3,18 +3,18 @@ use mathlib.Core.Path.{_≡_, refl, sym, ap, subst, fun-ext, _∙_}
 use mathlib.Core.Bool.{Bool, true, false, cond, _&&_}
 use mathlib.Core.List.{List, [], _∷_, _++_, map}
 use mathlib.Core.Logic.{_⊎_, inl, inr, _≢_}
-use Prim.Native.Nat.{ℕ, zero, suc, max, _<_, _≤_, _+_}
+use Prim.Native.Nat.{ℕ, suc, _<_, _≤_, _+_}
 use native.Mathlib.Omega.{arith}
 use lib.Dec.{eqb}
 use lib.ListN.{length, getD, set, drop}
 use lib.Seq.{getD-set-same, getD-set-other}
 use Rattle.std.proofs.shelf.Lists.{getD-append-left, getD-push, length-push}
 use Rattle.std.proofs.shelf.Tests.{cases-lt, cases-eq, eq-eqb, ne-eqb, true≢false}
-use Rattle.blocks.specs.Trees.{Id, at, Kept}
-use Rattle.rules.specs.Expressions.{Expr, num, same?}
+use Rattle.blocks.specs.Trees.{at, Kept}
+use Rattle.rules.specs.Expressions.{Expr, same?}
 use Rattle.blocks.specs.Reach as code
 use Rattle.blocks.specs.Reach.{reachNote, reachPair, reachDest, NotesBelow, PairsBelow, first-pair}
-use Rattle.rules.specs.Notes.{Note, nothing, note, Dest, clear, jump, branch, Static, upd, others, none?}
+use Rattle.rules.specs.Notes.{Note, note, Dest, branch, Static, upd, others, none?}
 use Rattle.rules.specs.Rules.{oldest?}
 use Rattle.blocks.specs.View.{noteIn, pairIn, destIn, viewIn}
 

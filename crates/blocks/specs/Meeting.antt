@@ -1,14 +1,14 @@
 -- A card is met register by register: the first expression of each variable is kept.
-use mathlib.Core.Bool.{Bool, true, false, _&&_}
-use mathlib.Core.List.{List, [], _∷_}
-use Prim.Native.Nat.{ℕ, suc, _+_, _≤_}
-use lib.ListN.{length, getD}
+use mathlib.Core.Bool.{Bool, true, _&&_}
+use mathlib.Core.List.{List}
+use Prim.Native.Nat.{ℕ, suc, _≤_}
+use lib.ListN.{getD}
 use Rattle.std.specs.declared.option.Option.{Option}
 use Rattle.std.specs.declared.option.Option.the-variants.{Some, None}
 use Rattle.blocks.specs.Trees.{Id, at}
 use Rattle.rules.specs.Expressions.{Expr, same?}
-use Rattle.rules.specs.Cards.{Slot, free, slot, Card}
-use Rattle.rules.specs.Notes.{Note, Notes, exprOf, has?, upd}
+use Rattle.rules.specs.Cards.{Slot, free, slot}
+use Rattle.rules.specs.Notes.{Note, exprOf, has?, upd}
 
 -- the expression of each variable that came up
 abbrev pub Seen : Type 0

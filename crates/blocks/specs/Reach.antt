@@ -2,7 +2,6 @@
 use mathlib.Core.List.{List}
 use Prim.Native.Nat.{ℕ, suc, max, _<_, _≤_}
 use lib.ListN.{length, getD}
-use Rattle.blocks.specs.declared.node.Id.{Id}
 pub use Rattle.blocks.specs.declared.note.Note.{Note}
 pub use Rattle.blocks.specs.declared.note.Note.the-variants.{Nothing, Noted}
 pub use Rattle.blocks.specs.declared.note.Pair.{Pair}

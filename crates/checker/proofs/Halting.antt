@@ -1,12 +1,12 @@
 -- The module of one halt passes.
 use mathlib.Core.Path.{_≡_, refl}
 use mathlib.Core.Bool.{true}
-use Prim.Native.Nat.{ℕ, zero, suc, _<_}
+use Prim.Native.Nat.{zero, suc}
 use native.Mathlib.Omega.{arith}
-use Rattle.isa.specs.Layout.{codeFits, blockFits, every, word}
+use Rattle.isa.specs.Layout.{codeFits, blockFits, every}
 use Rattle.rules.specs.Limits.{in-force}
 use Rattle.rules.specs.Cards.{entry}
-use Rattle.rules.specs.Module.{Keeps, keptAt, size}
+use Rattle.rules.specs.Module.{Keeps}
 use Rattle.rules.specs.Words.{Passes, moduleOf}
 use Rattle.checker.specs.Passing.{one-halt}
 

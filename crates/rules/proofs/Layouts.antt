@@ -1,13 +1,13 @@
 -- What a good layout says of the starts and cards of the module that words are.
-use mathlib.Core.Path.{_≡_, refl, sym, ap, subst, _∙_}
+use mathlib.Core.Path.{_≡_, sym, ap, subst, _∙_}
 use mathlib.Core.Bool.{Bool, true, false, cond, _&&_}
 use mathlib.Core.Logic.{_⊎_, inl, inr}
-use mathlib.Core.List.{List, map}
+use mathlib.Core.List.{List}
 use Prim.Native.Nat.{ℕ, zero, suc, _+_, _-_, _*_, _<_, _≤_}
 use native.Mathlib.Omega.{arith}
 use lib.Dec.{eqb, ltb, leb}
-use lib.ListN.{length, getD}
-use Rattle.std.proofs.shelf.Tests.{and-parts, cases-eq, eq-eqb, ne-eqb, eqb-true, ltb-true, leb-true, cond-true, cond-false, lt-ltb, le-ltb, cases-lt}
+use lib.ListN.{length}
+use Rattle.std.proofs.shelf.Tests.{and-parts, cases-eq, eq-eqb, ne-eqb, eqb-true, ltb-true, leb-true, cond-true, cond-false}
 use Rattle.isa.specs.Layout.{word, startAt, cardByte, slotted, startFits, slotFits, cardFits, blockFits, every, measured, codeFits, wellFormedAt}
 use Rattle.isa.proofs.Every.{every-suc}
 

@@ -1,9 +1,9 @@
 -- The rules of a block are the module's rules at its places.
-use mathlib.Core.Path.{_≡_, refl, sym, ap, subst, _∙_}
-use mathlib.Core.Bool.{Bool, true, false, cond, not, _&&_, _||_}
+use mathlib.Core.Path.{_≡_, refl, sym, ap, _∙_}
+use mathlib.Core.Bool.{Bool, true, false, not, _&&_, _||_}
 use mathlib.Core.Logic.{_⊎_, inl, inr}
-use mathlib.Core.List.{List, [], _∷_}
-use Prim.Native.Nat.{ℕ, zero, suc, _+_, _<_, _≤_}
+use mathlib.Core.List.{List, []}
+use Prim.Native.Nat.{ℕ, zero, suc, _+_, _<_}
 use native.Mathlib.Omega.{arith}
 use native.Mathlib.Numerals.{add-one}
 use native.Mathlib.Nat.{add-zero}
@@ -14,7 +14,7 @@ use Rattle.std.specs.declared.option.Option.the-variants.{Some, None}
 use Rattle.std.proofs.shelf.Tests.{cases-eq, eq-eqb, ne-eqb, lt-ltb, le-ltb, le-leb, lt-leb}
 use Rattle.rules.specs.Limits.{Limits}
 use Rattle.rules.specs.Notes.{Kind, halt, Static, none?, clear?, next}
-use Rattle.rules.specs.Cards.{Card, entry, Entry, inside, start, starts?, fresh, met?}
+use Rattle.rules.specs.Cards.{Card, entry, inside, start, starts?, fresh, met?}
 use Rattle.rules.specs.Rules.{own?, leaves?}
 use Rattle.rules.specs.Module.{Module, size, instr, enter, static, falls?, passable?, rule?, keptAt}
 use Rattle.rules.specs.Module as rules

@@ -1,11 +1,11 @@
 -- The blocks of the module that words are: the rules at their places are the rules of the blocks judged by themselves.
 use mathlib.Core.Path.{_≡_, refl, sym, ap, subst, _∙_}
-use mathlib.Core.Bool.{Bool, true, false, cond}
+use mathlib.Core.Bool.{true, false, cond}
 use mathlib.Core.Logic.{_⊎_, inl, inr}
 use mathlib.Core.List.{List, [], _∷_, map}
 use Prim.Native.Nat.{ℕ, zero, suc, _+_, _-_, _*_, _/_, _<_, _≤_}
 use native.Mathlib.Omega.{arith}
-use lib.Dec.{eqb, ltb, leb}
+use lib.Dec.{ltb}
 use lib.ListN.{length, getD}
 use Rattle.std.specs.declared.option.Option.{Option}
 use Rattle.std.specs.declared.option.Option.the-variants.{Some, None}
@@ -17,11 +17,11 @@ use Rattle.std.specs.Holes.{between}
 use Rattle.std.proofs.shelf.Edits.{length-between, getD-between}
 use Rattle.std.proofs.shelf.Tests.{cases-lt, cases-eq, cases-order, cond-true, cond-false, lt-ltb, le-ltb}
 use Rattle.isa.specs.Words.{kindOf}
-use Rattle.isa.specs.Layout.{word, kindAt, startAt, cardByte, slotByte, slotted, codeFits, blockFits, every, LaidOut}
+use Rattle.isa.specs.Layout.{word, kindAt, startAt, cardByte, slotByte, slotted, blockFits, every, LaidOut}
 use Rattle.rules.specs.Limits.{Limits}
 use Rattle.rules.specs.Notes.{Kind, halt}
 use Rattle.rules.specs.Cards.{Block, Card, free, entry, inside, start}
-use Rattle.rules.specs.Module.{Module, size, instr, keptAt, Keeps, BreaksAt}
+use Rattle.rules.specs.Module.{size, instr, keptAt, Keeps, BreaksAt}
 use Rattle.rules.specs.Block.{behind, orFree, cardAt, kept?, BlockPasses, BlockBreaks, BlockJudged}
 use Rattle.rules.specs.Part.{Behind, Part}
 use Rattle.rules.specs.Words.{edge, kindIn, kindsOf, cardOf, blockOf, moduleOf}
@@ -47,9 +47,6 @@ behind-none (b ∷ bs) zero h = absurd (omega arith)
 behind-none (b ∷ bs) (suc j) h = behind-none bs j (omega arith)
 
 module _ (ws : List ℕ) (good : every (word ws 1) (blockFits ws (word ws 0)) ≡ true) where
-  blocks : List Block
-  blocks = moduleOf ws .blocks
-
   many : length (moduleOf ws .blocks) ≡ word ws 1
   many = length-map-counting (blockOf ws (word ws 0)) 0 (word ws 1)
 
@@ -108,9 +105,6 @@ pub record Cut (ws : List ℕ) (b : ℕ) (part : List ℕ) : Type 0 where
   pub words : (j : ℕ) → j < length part → word part j ≡ word ws (2 + 2 * startAt ws (word ws 0) b + j)
 
 module _ (ws : List ℕ) (good : every (word ws 1) (blockFits ws (word ws 0)) ≡ true) (b : ℕ) (part : List ℕ) (cut : Cut ws b part) where
-  first : ℕ
-  first = startAt ws (word ws 0) b
-
   count : length (kindsOf part) + startAt ws (word ws 0) b ≡ edge ws (b + 1)
   count =
       let l = length-map-counting (kindIn part) 0 (length part / 2) in

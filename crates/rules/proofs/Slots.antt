@@ -1,14 +1,13 @@
 -- A card's byte and its entry.
 use mathlib.Core.Path.{_≡_, refl, sym, ap, subst, _∙_}
-use mathlib.Core.Bool.{true, false, cond, _&&_}
-use mathlib.Core.List.{List, map}
+use mathlib.Core.Bool.{true, false, cond}
+use mathlib.Core.List.{List}
 use Prim.Native.Nat.{ℕ, _+_, _-_, _%_, _<_}
 use native.Mathlib.Bridge.{le-prop}
 use native.Mathlib.Nat.{mod-eq-of-lt, mod-lt, ℕ-set}
 use native.Mathlib.Omega.{arith}
 use lib.Dec.{eqb, leb, lit<}
 use lib.ListN.{length, getD}
-use Rattle.std.specs.Iters.{counting}
 use Rattle.std.proofs.shelf.Counted.{fill-by-all}
 use Rattle.std.proofs.shelf.Tests.{ne-eqb, le-leb, lt-leb, cond-true, cond-false, and-from}
 use Rattle.isa.specs.Layout.{slotByte, cardByte, startAt}

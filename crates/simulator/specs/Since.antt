@@ -89,8 +89,9 @@ abbrev pub FoundIn : (ℕ → Bool) → Since → Model → Option Loaded → Ty
 FoundIn w l t None = Unit {0}
 FoundIn w l t (Some x) = RunFound w l t x
 
--- The finding, for calls that were made of a simulator that was idle, over cells that are words. (That they are is not for a
--- memory's contract to say, which speaks of all addresses, but every word that a memory answers is one.)
+-- The finding, for calls that were made of a simulator that was idle, over cells that are words. The premise on the cells is
+-- there because a memory's contract says of single answers only that they are words. It is needed at the start alone: what
+-- calls write are words.
 abbrev pub FoundAfter : Model → List Call → List Answer → Model → Type 0
 FoundAfter s calls answers t =
     s .loaded ≡ None → AreCells (s .cells .word) → FoundIn (s .cells .writable) (since nothing s calls answers) t (t .loaded)

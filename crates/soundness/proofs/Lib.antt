@@ -8,3 +8,4 @@ pub mod Agree
 pub mod Struck
 pub mod Unstruck
 pub mod Finding
+pub mod Worked

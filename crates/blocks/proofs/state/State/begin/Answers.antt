@@ -1,10 +1,9 @@
-use borrow.Author.Needs.{needs}
-use mathlib.Core.Path.{_≡_, ap, sym, _∙_}
-use Prim.Native.Nat.{_≤_, _<_}
+use mathlib.Core.Path.{ap, _∙_}
+use Prim.Native.Nat.{_<_}
 use native.Mathlib.Omega.{arith}
-use lib.ListN.{length, getD, take}
+use lib.ListN.{length, take}
 use Rattle.std.proofs.shelf.Lists.{take-all}
-use Rattle.rules.specs.Cards.{fresh, free}
+use Rattle.rules.specs.Cards.{fresh}
 use Rattle.blocks.specs.View.{noteCard}
 use Rattle.blocks.proofs.Blocks.{fresh-more}
 use Rattle.blocks.proofs.state.State.begin.Needs as need

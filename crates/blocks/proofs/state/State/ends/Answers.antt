@@ -1,5 +1,4 @@
-use borrow.Author.Needs.{needs}
-use mathlib.Core.Path.{_≡_, ap, sym, _∙_}
+use mathlib.Core.Path.{ap, sym}
 use Rattle.blocks.specs.View.{view}
 use Rattle.rules.specs.Block.{ends?}
 use Rattle.rules.proofs.Parts.{behind-at, behind-none}

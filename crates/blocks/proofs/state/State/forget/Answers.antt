@@ -1,8 +1,5 @@
 use borrow.Author.Needs.{needs}
-use Prim.Native.Nat.{_≤_}
-use mathlib.Core.Path.{_≡_}
 use native.Mathlib.Omega.{arith}
-use Rattle.std.specs.Of.Vec.{vec-cap}
 use Rattle.blocks.proofs.Blocks.{nothing-below, no-pairs-below, view-none}
 use Rattle.blocks.proofs.state.State.forget.Needs as need
 

@@ -1,12 +1,9 @@
-use borrow.Author.Needs.{needs}
-use mathlib.Core.Path.{_≡_, refl, ap, sym, _∙_}
-use mathlib.Core.Bool.{true, false, _&&_}
-use Prim.Native.Nat.{_<_, _≤_, _+_}
+use mathlib.Core.Path.{refl, ap, sym, _∙_}
+use Prim.Native.Nat.{_<_}
 use native.Mathlib.Omega.{arith}
-use lib.ListN.{length, getD, drop}
+use lib.ListN.{length, drop}
 use Rattle.std.proofs.shelf.Lists.{drop-all}
-use Rattle.rules.specs.Cards.{free}
-use Rattle.blocks.specs.Meeting.{meetOne?, seenIn, seenNext}
+use Rattle.blocks.specs.Meeting.{seenIn}
 use Rattle.blocks.specs.View.{view, known, count}
 use Rattle.blocks.proofs.Meetings.{meetFrom?, met-from, seen-none, first-none, meet-fails, meet-goes}
 use Rattle.blocks.proofs.state.State.meets.Needs as need

@@ -1,7 +1,5 @@
 use borrow.Author.Needs.{needs}
-use native.Mathlib.Omega.{arith}
 use Rattle.std.specs.Of.Vec.{vec-items}
-use Rattle.std.proofs.shelf.Ways.{tells}
 use Rattle.blocks.specs.View.{known}
 use Rattle.blocks.proofs.Views.{none-pending}
 use Rattle.blocks.proofs.state.State.nothing_pending.Needs as need

@@ -1,10 +1,8 @@
 use borrow.Author.Needs.{needs}
-use mathlib.Core.Path.{_≡_, refl, ap, sym, subst, _∙_}
-use mathlib.Core.List.{List, [], _∷_, _++_, map}
-use Prim.Native.Nat.{ℕ, _<_, _≤_, _+_}
-use native.Mathlib.Omega.{arith}
-use lib.ListN.{length, drop}
-use Rattle.std.specs.Of.Vec.{vec-items, vec-len, vec-cap}
+use mathlib.Core.Path.{ap, sym, subst, _∙_}
+use mathlib.Core.List.{List, map}
+use Prim.Native.Nat.{_≤_, _+_}
+use Rattle.std.specs.Of.Vec.{vec-items, vec-cap}
 use Rattle.rules.specs.Expressions.{Expr}
 use Rattle.blocks.specs.Reach.{PairsBelow}
 use Rattle.rules.specs.Notes.{Static}

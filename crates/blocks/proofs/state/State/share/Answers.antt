@@ -1,11 +1,9 @@
 use borrow.Author.Needs.{needs}
-use mathlib.Core.Path.{_≡_, refl, ap, sym, subst}
-use Prim.Native.Nat.{ℕ, _<_, _≤_}
+use mathlib.Core.Path.{_≡_}
 use native.Mathlib.Omega.{arith}
 use lib.ListN.{length}
 use Rattle.std.specs.Of.Vec.{vec-items, vec-len}
-use Rattle.blocks.specs.Reach.{NotesBelow, PairsBelow, reachDest}
-use Rattle.blocks.specs.View.{known, view, count}
+use Rattle.blocks.specs.View.{known, view}
 use Rattle.blocks.proofs.Entries.{length-trees}
 use Rattle.blocks.proofs.Views.{view-kept}
 use Rattle.blocks.proofs.state.State.share.Needs as need

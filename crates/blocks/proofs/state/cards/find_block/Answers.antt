@@ -1,5 +1,4 @@
-use mathlib.Core.Path.{_≡_, ap, sym, _∙_}
-use mathlib.Core.List.{[]}
+use mathlib.Core.Path.{ap, _∙_}
 use lib.ListN.{getD}
 use Rattle.std.proofs.shelf.Lists.{getD-default, drop-all}
 use Rattle.rules.specs.Cards.{Block, entry, starts?}

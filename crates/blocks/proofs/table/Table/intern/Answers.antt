@@ -1,10 +1,10 @@
 use borrow.Author.Needs.{needs}
 use mathlib.Core.Path.{_≡_, refl, sym, ap, subst, _∙_}
 use mathlib.Core.List.{List, [], _∷_, _++_}
-use Prim.Native.Nat.{_≤_, _<_}
+use Prim.Native.Nat.{_≤_}
 use native.Mathlib.Omega.{arith}
 use lib.ListN.{length, getD}
-use Rattle.std.specs.Of.Vec.{vec-items, vec-len, vec-cap}
+use Rattle.std.specs.Of.Vec.{vec-items, vec-cap}
 use Rattle.std.proofs.shelf.Lists.{getD-default}
 use Rattle.blocks.specs.Trees.{room, Node, Number, Closed, Once, Kept, trees, treeOf, reach}
 use Rattle.rules.specs.Expressions.{num}

@@ -1,4 +1,3 @@
-use Rattle.std.specs.Of.Vec.{vec-items}
 use Rattle.blocks.proofs.Entries.{empty-closed, empty-once}
 use Rattle.blocks.proofs.table.Table.new.Needs as need
 
