@@ -12,3 +12,4 @@ pub mod Checking
 pub mod Passing
 pub mod Bytes
 pub mod Encoding
+pub mod Reading

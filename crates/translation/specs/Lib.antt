@@ -4,3 +4,4 @@ pub mod Compile
 pub mod Checked
 pub mod Steps
 pub mod Runs
+pub mod Written

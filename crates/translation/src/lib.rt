@@ -2,3 +2,4 @@
 // plan means.
 pub mod checked;
 pub mod runs;
+pub mod words;
