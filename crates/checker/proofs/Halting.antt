@@ -7,7 +7,7 @@ use Rattle.rules.specs.Module.{Keeps}
 use Rattle.rules.specs.Words.{Passes, module_of}
 use Rattle.checker.specs.Passing.{one-halt}
 
-code : code_fits in_force one-halt ≡ true
+code : code_fits one-halt ≡ true
 unfolding every
 code = refl
 

@@ -28,6 +28,6 @@ lifted (layout.Block b) = Block b
 -- this is the words' first fault: length, counts, operations and fields go before starts and cards, those before
 -- the rules, and each goes by its place
 abbrev pub Faulty : List ℕ → CheckFault → Type 0
-Faulty ws Malformed = code_fits in_force ws ≡ false
-Faulty ws (Block b) = BadBlock in_force ws b
-Faulty ws (Rule p) = LaidOut in_force ws × BreaksAt in_force (module_of ws) p
+Faulty ws Malformed = code_fits ws ≡ false
+Faulty ws (Block b) = BadBlock ws b
+Faulty ws (Rule p) = LaidOut ws × BreaksAt in_force (module_of ws) p

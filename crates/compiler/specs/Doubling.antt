@@ -1,5 +1,5 @@
--- Inner, doubling: one colour's half of an instruction over twins.
-use Rattle.std.specs.Prelude.{◌+◌, ◌*◌}
+-- Doubling: one colour's half of an instruction over twins.
+use Rattle.std.specs.Prelude.{ℕ, ◌+◌, ◌*◌}
 use Rattle.isa.specs.declared.kinds.Colour.{Colour}
 use Rattle.isa.specs.declared.kinds.Colour.TheVariants.{Green, Blue}
 use Rattle.isa.specs.declared.kinds.Register.{Register}

@@ -1,18 +1,13 @@
 // The compiler: a plan's tables to code over twin registers, and that code, doubled, to the words of
 // a module.
-pub mod access;
 pub mod compile;
-mod double;
-mod emit;
-mod expression;
+pub mod double;
 pub mod fault;
-mod half;
-mod judge;
-mod line;
-mod lines;
+pub mod half;
+pub mod line;
+pub mod lines;
 mod select;
 pub mod tables;
-mod twin;
-pub mod unique;
+pub mod twin;
 mod width;
 mod write;

@@ -22,8 +22,4 @@ impl Memory for Journal<'_> {
         self.word = value;
         self.cells.store(address, value)
     }
-
-    fn holds_words(&self) {
-        self.cells.holds_words();
-    }
 }

@@ -1,5 +1,6 @@
 // One task from the plan's text to a struck run, told as it is done.
 mod journal;
+mod listing;
 mod runs;
 
 use anyhow::anyhow;
@@ -8,7 +9,7 @@ use checker::pass::Pass;
 use compiler::tables::Compiler;
 use isa::layout::{block_count, instruction_at, instruction_count, start_at};
 use isa::limits::MODULE_WORDS;
-use listing::module::{block_end, print_instruction, print_module};
+use listing::{block_end, print_instruction, print_module};
 use plan::tables::Plan;
 use runs::{tell_struck, tell_unstruck};
 use std::alloc::Global;

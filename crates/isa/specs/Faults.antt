@@ -3,7 +3,6 @@ use Rattle.std.specs.Prelude.{◌≡◌, ℕ, false, List, Ok, Err, Result}
 use Rattle.isa.specs.declared.layout.LayoutFault.{LayoutFault}
 use Rattle.isa.specs.declared.layout.LayoutFault.TheVariants.{Malformed, Block}
 use Rattle.isa.specs.declared.layout.Shape.{Shape}
-use Rattle.isa.specs.Limits.{Limits}
 use Rattle.isa.specs.Layout.{word, code_fits, LaidOut, BadBlock}
 
 -- a fault's number and place
@@ -16,7 +15,7 @@ place Malformed = 0
 place (Block b) = b
 
 -- the counts of words that are laid out well, or the first fault
-abbrev pub Examined : Limits → List ℕ → Result Shape LayoutFault → Type 0
-Examined L ws (Ok s) = LaidOut L ws × (s.instructions ≡ word ws 0) × (s.blocks ≡ word ws 1)
-Examined L ws (Err Malformed) = code_fits L ws ≡ false
-Examined L ws (Err (Block b)) = BadBlock L ws b
+abbrev pub Examined : List ℕ → Result Shape LayoutFault → Type 0
+Examined ws (Ok s) = LaidOut ws × (s.instructions ≡ word ws 0) × (s.blocks ≡ word ws 1)
+Examined ws (Err Malformed) = code_fits ws ≡ false
+Examined ws (Err (Block b)) = BadBlock ws b

@@ -5,7 +5,6 @@ use Rattle.isa.specs.declared.kinds.Colour.TheVariants.{Green, Blue}
 use Rattle.isa.specs.declared.kinds.Kind.{Kind}
 use Rattle.isa.specs.declared.card.Slot.{Slot}
 use Rattle.isa.specs.declared.card.Slot.TheVariants.{Free, Coloured}
-use Rattle.isa.specs.Limits.{Limits}
 use Rattle.isa.specs.Words.{kind_of, well_formed}
 
 -- the word at a place; 0 past the end
@@ -42,9 +41,9 @@ abbrev pub slotted : ℕ → Bool
 slotted x = nat_le x 32 || (nat_le 129 x && nat_le x 160)
 
 -- the counts are within their limits, and the length is the one that they give
-abbrev pub measured : Limits → List ℕ → Bool
-measured L ws =
-    (nat_lt 0 (word ws 0) && nat_le (word ws 0) L.instructions) && ((nat_lt 0 (word ws 1) && nat_le (word ws 1) L.blocks) && length ws == 2 + 2 * word ws 0 + 9 * word ws 1)
+abbrev pub measured : List ℕ → Bool
+measured ws =
+    (nat_lt 0 (word ws 0) && nat_le (word ws 0) 1024) && ((nat_lt 0 (word ws 1) && nat_le (word ws 1) 64) && length ws == 2 + 2 * word ws 0 + 9 * word ws 1)
 
 -- f holds of every number below n
 unfoldable pub every : ℕ → (ℕ → Bool) → Bool
@@ -66,17 +65,17 @@ abbrev pub block_fits : List ℕ → ℕ → ℕ → Bool
 block_fits ws n b = start_fits ws n b && card_fits ws n b
 
 -- counts, length, operations and fields are right
-abbrev pub code_fits : Limits → List ℕ → Bool
-code_fits L ws = measured L ws && every (word ws 0) (well_formed_at ws)
+abbrev pub code_fits : List ℕ → Bool
+code_fits ws = measured ws && every (word ws 0) (well_formed_at ws)
 
 -- the words are laid out as a module
-pub record LaidOut (L : Limits) (ws : List ℕ) : Type 0 where
-  pub code : code_fits L ws ≡ true
+pub record LaidOut (ws : List ℕ) : Type 0 where
+  pub code : code_fits ws ≡ true
   pub blocks : every (word ws 1) (block_fits ws (word ws 0)) ≡ true
 
 -- block b is the first one with a bad start or a bad card
-pub record BadBlock (L : Limits) (ws : List ℕ) (b : ℕ) : Type 0 where
-  pub code : code_fits L ws ≡ true
+pub record BadBlock (ws : List ℕ) (b : ℕ) : Type 0 where
+  pub code : code_fits ws ≡ true
   pub there : b < word ws 1
   pub before : every b (block_fits ws (word ws 0)) ≡ true
   pub bad : block_fits ws (word ws 0) b ≡ false

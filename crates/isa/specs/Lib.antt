@@ -1,4 +1,3 @@
-pub mod Limits
 pub mod Registers
 pub mod Words
 pub mod Layout

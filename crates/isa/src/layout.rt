@@ -3,7 +3,6 @@ ghost use Rattle.std.specs.Prelude.{◌≡◌, ℕ, ◌+◌, ◌*◌, ◌/◌, �
 ghost use Rattle.isa.specs.declared.card.Slot.TheVariants.{Free};
 ghost use Rattle.isa.specs.Layout.{word as word_at, kind_at, well_formed_at, start_at, byte as byte_of, card_byte, slot_byte, slotted, measured, every, start_fits, slot_fits, card_fits, block_fits, code_fits, LaidOut, BadBlock};
 ghost use Rattle.isa.specs.Faults.{Examined};
-ghost use Rattle.isa.specs.Limits.{in_force};
 
 use crate::card::{Block, Slot, Variable};
 use crate::instruction::Instruction;
@@ -135,7 +134,7 @@ fn fits_start(words: &[u32], instructions: u32, block: u32) -> bool
 }
 
 fn is_measured(words: &[u32]) -> bool
-    ensures { result ≡ measured in_force words.now }
+    ensures { result ≡ measured words.now }
 {
     let instructions = instruction_count(words);
     let blocks = block_count(words);
@@ -170,7 +169,7 @@ fn fits_block(words: &[u32], instructions: u32, block: u32) -> bool
 }
 
 fn fits_code(words: &[u32]) -> bool
-    ensures { result ≡ code_fits in_force words.now }
+    ensures { result ≡ code_fits words.now }
 {
     is_measured(words) && is_code(words, instruction_count(words))
 }
@@ -178,7 +177,7 @@ fn fits_code(words: &[u32]) -> bool
 // The counts of the words' module, or the first fault of its layout: length, counts, operations and
 // fields first, and then the blocks in their order.
 pub fn examine(words: &[u32]) -> Result<Shape, LayoutFault>
-    ensures { Examined in_force words.now result }
+    ensures { Examined words.now result }
 {
     if !fits_code(words) {
         return Err(LayoutFault::Malformed);

@@ -1,21 +1,9 @@
 -- What a memory means: the word at each address, and which addresses are writable. Addresses are 0 to 2^32 - 1.
-use Rattle.std.specs.Prelude.{ℕ, ◌+◌, ◌^◌, ◌<◌, Bool, cond, ◌&&◌, List, ◌==◌, nat_lt, slice_index}
+use Rattle.std.specs.Prelude.{ℕ, ◌+◌, ◌^◌, Bool, cond, ◌&&◌, ◌==◌, nat_lt}
 
 pub record Cells : Type 0 where
   pub word : ℕ → ℕ
   pub writable : ℕ → Bool
-
--- a word has 32 bits and no sign
-abbrev pub Word : ℕ → Type 0
-Word n = n < 2 ^ 32
-
--- every element is a word
-abbrev pub AreWords : List ℕ → Type 0
-AreWords ws = (i : ℕ) → Word (slice_index ws i)
-
--- at each of the 2^32 addresses stands a word
-abbrev pub AreCells : (ℕ → ℕ) → Type 0
-AreCells words = (a : ℕ) → Word a → Word (words a)
 
 -- the words with `value` at `address`
 abbrev pub replaced : (ℕ → ℕ) → ℕ → ℕ → ℕ → ℕ

@@ -1,11 +1,8 @@
 // Cell memories: what every memory promises, and the kinds that come with the product.
 ghost use Rattle.std.specs.Prelude.{◌≡◌, ℕ, length, is_ok, nat_lt, slice_index};
-ghost use Rattle.memory.specs.Cells.{Cells, AreCells, stored};
-
-use crate::words::are_words;
+ghost use Rattle.memory.specs.Cells.{Cells, stored};
 
 pub mod window;
-pub mod words;
 
 // A store at an address that is not writable.
 #[derive(Clone, Copy, Debug, PartialEq, Eq)]
@@ -24,13 +21,8 @@ pub trait Memory {
 
     // Replaces the word at the address; refused, with nothing altered, exactly where it is not writable.
     fn store(&mut self, address: u32, value: u32) -> Result<(), NotWritable>
-        ensures accepted { is_ok result ≡ (cells self.old).writable address }
+        ensures test { is_ok result ≡ (cells self.old).writable address }
         ensures after { cells self.new ≡ stored (cells self.old) address value };
-
-    // Nothing is to be done here, but a memory owes what this promises: a word of 32 bits stands at each of
-    // the 2^32 addresses, also at those that nobody has loaded from.
-    fn holds_words(&self)
-        ensures { AreCells (cells self.now).word };
 }
 
 // Words lent by the host. An address below their number is writable; every other one reads as 0.
@@ -60,10 +52,6 @@ impl Memory for ArrayMemory<'_> {
             Err(NotWritable)
         }
     }
-
-    fn holds_words(&self) {
-        let _ = are_words(self.words);
-    }
 }
 
 // A memory that is lent is a memory.
@@ -76,9 +64,5 @@ impl<M: Memory> Memory for &mut M {
 
     fn store(&mut self, address: u32, value: u32) -> Result<(), NotWritable> {
         (**self).store(address, value)
-    }
-
-    fn holds_words(&self) {
-        (**self).holds_words();
     }
 }

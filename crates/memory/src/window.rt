@@ -79,8 +79,4 @@ impl<M: Memory> Memory for Window<M> {
             Err(NotWritable)
         }
     }
-
-    fn holds_words(&self) {
-        self.under.holds_words();
-    }
 }

@@ -1,12 +1,5 @@
-mod Beginning
-mod Finishing
 mod Front
 mod Growing
-mod Growth
-mod Laid
-mod Laying
-mod Lines
-mod Listed
 mod Opening
-mod Parts
-mod Steps
+mod Scanning
+mod Spelled

@@ -1,9 +1,5 @@
 pub mod Faults
-pub mod Lining
-pub mod Listing
+pub mod Tables
 pub mod Plans
 pub mod Reading
-pub mod Reads
-pub mod Showing
-pub mod Tables
-pub mod Trees
+pub mod Spelling

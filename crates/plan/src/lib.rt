@@ -1,4 +1,4 @@
-// The plan language: its reader, and the tables of a plan.
+// The plan language: its marks, its reader, and the tables of a plan.
 pub mod access;
 mod expression;
 pub mod fault;
@@ -6,9 +6,12 @@ mod grow;
 pub mod limits;
 mod line;
 mod mark;
+mod marks;
 mod nesting;
 mod read;
 pub mod reader;
 mod repeats;
+mod scan;
 pub mod tables;
 pub mod tree;
+mod word;

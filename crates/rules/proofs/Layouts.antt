@@ -3,7 +3,6 @@ use Rattle.std.proofs.Common.{◌≡◌, ℕ, zero, suc, ◌+◌, ◌-◌, ◌*�
 use Rattle.std.proofs.lemmas.Bool.{and_parts, cases_eq, eq-eqb, ne_eqb, eqb-true, ltb-true, leb-true, cond-true, cond-false}
 use Rattle.isa.specs.Layout.{word, start_at, card_byte, slotted, start_fits, slot_fits, card_fits, block_fits, every, measured, code_fits, well_formed_at}
 use Rattle.isa.proofs.Every.{every_suc}
-use Rattle.rules.specs.Limits.{Limits}
 
 -- what holds of every number below n holds of each
 pub every-at : (n i : ℕ) (f : ℕ → Bool) → every n f ≡ true → i < n → f i ≡ true
@@ -18,19 +17,19 @@ every-at (suc n) i f h l = go (λ (g : every n f ≡ true) (k : i < n). every-at
     go r (inr e) = r both.0 (omega arith)
 
 -- the words are as many as their counts say
-pub long : (L : Limits) (ws : List ℕ) → code_fits L ws ≡ true → length ws ≡ 2 + 2 * word ws 0 + 9 * word ws 1
-long L ws h =
-    let m = (and_parts (measured L ws) (every (word ws 0) (well_formed_at ws)) h).0 in
-    let r = (and_parts (ltb 0 (word ws 0) && leb (word ws 0) L.instructions) _ m).1 in
-    eqb-true _ _ (and_parts (ltb 0 (word ws 1) && leb (word ws 1) L.blocks) _ r).1
+pub long : (ws : List ℕ) → code_fits ws ≡ true → length ws ≡ 2 + 2 * word ws 0 + 9 * word ws 1
+long ws h =
+    let m = (and_parts (measured ws) (every (word ws 0) (well_formed_at ws)) h).0 in
+    let r = (and_parts (ltb 0 (word ws 0) && leb (word ws 0) 1024) _ m).1 in
+    eqb-true _ _ (and_parts (ltb 0 (word ws 1) && leb (word ws 1) 64) _ r).1
 
-pub few : (L : Limits) (ws : List ℕ) → code_fits L ws ≡ true → (word ws 0 ≤ L.instructions) × (0 < word ws 1) × (word ws 1 ≤ L.blocks)
-few L ws h =
-    let m = (and_parts (measured L ws) (every (word ws 0) (well_formed_at ws)) h).0 in
-    let a = and_parts (ltb 0 (word ws 0) && leb (word ws 0) L.instructions) _ m in
-    let i = and_parts (ltb 0 (word ws 0)) (leb (word ws 0) L.instructions) a.0 in
-    let c = and_parts (ltb 0 (word ws 1) && leb (word ws 1) L.blocks) _ a.1 in
-    let b = and_parts (ltb 0 (word ws 1)) (leb (word ws 1) L.blocks) c.0 in
+pub few : (ws : List ℕ) → code_fits ws ≡ true → (word ws 0 ≤ 1024) × (0 < word ws 1) × (word ws 1 ≤ 64)
+few ws h =
+    let m = (and_parts (measured ws) (every (word ws 0) (well_formed_at ws)) h).0 in
+    let a = and_parts (ltb 0 (word ws 0) && leb (word ws 0) 1024) _ m in
+    let i = and_parts (ltb 0 (word ws 0)) (leb (word ws 0) 1024) a.0 in
+    let c = and_parts (ltb 0 (word ws 1) && leb (word ws 1) 64) _ a.1 in
+    let b = and_parts (ltb 0 (word ws 1)) (leb (word ws 1) 64) c.0 in
     (leb-true _ _ i.1, ltb-true _ _ b.0, leb-true _ _ b.1)
 
 module _ (ws : List ℕ) (good : every (word ws 1) (block_fits ws (word ws 0)) ≡ true) where

@@ -6,5 +6,3 @@ pub mod Starts
 pub mod Layouts
 pub mod Parts
 pub mod Meets
-pub mod Relations
-pub mod Copies

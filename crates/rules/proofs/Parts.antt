@@ -211,19 +211,19 @@ cut_is ws b from to part h f t o w e =
     }
 
 -- where the words of a block lie
-pub record Lies (L : Limits) (ws : List ℕ) (b from to : ℕ) : Type 0 where
+pub record Lies (ws : List ℕ) (b from to : ℕ) : Type 0 where
   pub order : from < to
   pub below : to ≤ word ws 0
   pub within : 2 + 2 * to ≤ length ws
-  pub few : word ws 0 ≤ L.instructions
+  pub few : word ws 0 ≤ 1024
   pub start : from ≡ start_at ws (word ws 0) b
 
-pub lies : (L : Limits) (ws : List ℕ) (laid : LaidOut L ws) (b from to : ℕ) → b < word ws 1 → from ≡ edge ws b → to ≡ edge ws (b + 1) → Lies L ws b from to
-lies L ws laid b from to h f t =
+pub lies : (ws : List ℕ) (laid : LaidOut ws) (b from to : ℕ) → b < word ws 1 → from ≡ edge ws b → to ≡ edge ws (b + 1) → Lies ws b from to
+lies ws laid b from to h f t =
     let s = edge-start ws b h in
     let r = edge_rises ws laid.blocks b h in
-    let l = long L ws laid.code in
-    let w = few L ws laid.code in
+    let l = long ws laid.code in
+    let w = few ws laid.code in
     record { order = omega arith; below = omega arith; within = omega arith; few = omega arith; start = omega arith }
 
 -- block b as it was read from words that are laid out well, with n instructions
@@ -259,9 +259,9 @@ judged_in L ws good b bs C r h e j =
     subst Q k (subst P e j)
 
 -- where the first block starts, and where the last one ends
-pub edge-first : (L : Limits) (ws : List ℕ) (laid : LaidOut L ws) → edge ws 0 ≡ 0
-edge-first L ws laid =
-    let w = few L ws laid.code in
+pub edge-first : (ws : List ℕ) (laid : LaidOut ws) → edge ws 0 ≡ 0
+edge-first ws laid =
+    let w = few ws laid.code in
     let h : 0 < word ws 1 = omega arith in
     edge-start ws 0 h ∙ start_first ws laid.blocks h
 
@@ -273,10 +273,10 @@ all_kept L ws b h k p l =
     k p (omega arith)
 
 -- one block after another: the words `part` from `from` to `to` are block b, `bs` are the module's blocks, and the rules are kept before
-module _ (L : Limits) (ws : List ℕ) (laid : LaidOut L ws) (b from to : ℕ) (part : List ℕ) (bs : List Block) (h : b < word ws 1) (f : from ≡ edge ws b) (t : to ≡ edge ws (b + 1))
+module _ (L : Limits) (ws : List ℕ) (laid : LaidOut ws) (b from to : ℕ) (part : List ℕ) (bs : List Block) (h : b < word ws 1) (f : from ≡ edge ws b) (t : to ≡ edge ws (b + 1))
     (p : part ≡ between (2 + 2 * from) (2 + 2 * to) ws) (e : bs ≡ (module_of ws).blocks) (before : (q : ℕ) → q < edge ws b → kept_at L (module_of ws) q ≡ true) where
-  here_lies : Lies L ws b from to
-  here_lies = lies L ws laid b from to h f t
+  here_lies : Lies ws b from to
+  here_lies = lies ws laid b from to h f t
 
   here_cut : Cut ws b part
   here_cut = let l = here_lies in cut_is ws b from to part h f t (omega arith) l.within p
@@ -291,9 +291,9 @@ module _ (L : Limits) (ws : List ℕ) (laid : LaidOut L ws) (b from to : ℕ) (p
       let P : ℕ → Type 0 = λ s. BreaksAt L (module_of ws) (s + k) in
       subst P (sym here_lies.start) (breaks_here ws laid.blocks b part here_cut L before k (judged_in L ws laid.blocks b bs (kinds_of part) (Err k) h e j))
 
-  pub broken_low : (k : ℕ) → BlockJudged L bs (behind bs (b + 1)) (card_at bs b) (kinds_of part) (Err k) → from + k < L.instructions
+  pub broken_low : (k : ℕ) → BlockJudged L bs (behind bs (b + 1)) (card_at bs b) (kinds_of part) (Err k) → from + k < 1024
   broken_low k j =
       let x = (first_broken k j).place in
       let z = length-map-range_with_len (kind_at ws) 0 (word ws 0) in
-      let w = few L ws laid.code in
+      let w = few ws laid.code in
       omega arith

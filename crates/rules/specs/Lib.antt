@@ -8,4 +8,3 @@ pub mod Module
 pub mod Part
 pub mod Words
 pub mod Met
-pub mod Copies

@@ -1,2 +1,14 @@
--- The limits of modules, which every rule takes.
-pub use Rattle.isa.specs.Limits.{Limits, in_force}
+-- The limits of modules.
+use Rattle.std.specs.Prelude.{ℕ}
+
+pub record Limits : Type 0 where
+  -- instructions of a module
+  pub instructions : ℕ
+  -- blocks of a module
+  pub blocks : ℕ
+  -- stores that green may be ahead of blue
+  pub queue : ℕ
+
+-- the limits in force
+abbrev pub in_force : Limits
+in_force = record { instructions = 1024; blocks = 64; queue = 16 }

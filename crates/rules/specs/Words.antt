@@ -52,4 +52,4 @@ module_of ws = record {
 
 -- the words are laid out as a module, and at each of its places the rule is kept
 abbrev pub Passes : Limits → List ℕ → Type 0
-Passes L ws = (code_fits L ws ≡ true) × (every (word ws 1) (block_fits ws (word ws 0)) ≡ true) × Keeps L (module_of ws)
+Passes L ws = (code_fits ws ≡ true) × (every (word ws 1) (block_fits ws (word ws 0)) ≡ true) × Keeps L (module_of ws)

@@ -1,1 +1,4 @@
 pub mod Loading
+pub mod Replaying
+pub mod Standing
+pub mod Striking

@@ -1,4 +1,5 @@
 // The simulator: runs of checked code over any memory, with strikes on command.
+pub mod call;
 mod fill;
 mod latch;
 pub mod place;

@@ -4,6 +4,7 @@ use machine::run::Run;
 use memory::Memory;
 
 pub mod calls;
+pub mod replay;
 
 // The memory, the store for a module's code, and the run: None while the simulator is idle.
 #[derive(Drop)]

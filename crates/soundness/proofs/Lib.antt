@@ -1,3 +1,4 @@
+pub mod Rules
 pub mod Passed
 pub mod Outcomes
 pub mod Words
@@ -7,3 +8,4 @@ pub mod Agree
 pub mod Struck
 pub mod Unstruck
 pub mod Finding
+pub mod Worked

@@ -18,7 +18,8 @@ use Rattle.rules.specs.Words.{slot_of, card_of, block_of, module_of, Passes}
 use Rattle.rules.proofs.Layouts.{every-at, few, start_below, start_first}
 use Rattle.rules.proofs.Starts.{entry-inside}
 use Rattle.rules.proofs.Parts.{entry_start}
-use Rattle.memory.specs.Cells.{Word, AreWords}
+use Rattle.soundness.specs.Strikes.{Word}
+use Rattle.soundness.specs.Finding.{AreWords}
 
 -- the first block starts at 0, and its card says nothing; blocks start inside the code; each constant is a word; all rules are kept
 pub record Passed (L : Limits) (m : Module) : Type 0 where
@@ -67,7 +68,7 @@ module _ (L : Limits) (ws : List ℕ) (wide : AreWords ws) (H : Passes L ws) whe
   many = length-map-range_with_len (kind_at ws) 0 (word ws 0)
 
   blocks : 0 < word ws 1
-  blocks = (few L ws H.0).1
+  blocks = (few ws H.0).1
 
   below : (p : ℕ) → starts? (entry (module_of ws).blocks p) ≡ true → p < size (module_of ws)
   below p h = one (cases_lt p (word ws 0))

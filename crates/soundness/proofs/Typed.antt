@@ -2,7 +2,7 @@
 use Rattle.std.proofs.Common.{◌≡◌, ℕ, zero, suc, ◌+◌, ◌<◌, ◌≤◌, Bool, true, false, cond, not, eqb, ltb, ◌≢◌, [], ◌∷◌, ◌++◌, length, get_or, sym, refl, ap, ◌∙◌, subst, ap₂, le_refl, arith}
 use mathlib.Core.Path.{subst⁻¹}
 use Rattle.std.proofs.lemmas.Bool.{and_from, eq-eqb, ne_eqb, lt-ltb, not_from_false}
-use Rattle.memory.specs.Cells.{Word, replaced}
+use Rattle.memory.specs.Cells.{replaced}
 use Rattle.isa.specs.Words.{alu, second_word}
 use Rattle.machine.specs.declared.queue.Pair.{Pair}
 use Rattle.machine.specs.declared.ends.Report.TheVariants.{CountersDiffer, StoreDiffers, Destination, Queue, Outside}
@@ -14,8 +14,9 @@ use Rattle.rules.specs.Expressions.{Arithmetic, Expr, load}
 use Rattle.rules.specs.Notes.{Colour, green, blue, Register, Kind, mov, cpy, arith as arith-op, ld, st, jmp, bz, halt, upd, Note, nothing, note, Notes, Dest, clear, jump, branch, Static, note_of, expr_of, target_of, set_note, set_dest, pushed, others, popped, combine, next}
 use Rattle.rules.specs.Cards.{Slot, free, slot, Card, card_note, fresh, Entry, inside, start, entry, starts?}
 use Rattle.rules.specs.Module.{Module, size, instr, enter, static}
+use Rattle.soundness.specs.Strikes.{Word}
 use Rattle.soundness.proofs.Passed.{Passed}
-use Rattle.rules.proofs.Relations.{Coloured, Sub, Oldest, Has, HasNumber, Meets, Met, Enters, Arrives, Passable, Falls, Rule, rule_is}
+use Rattle.soundness.proofs.Rules.{Coloured, Sub, Oldest, Has, HasNumber, Meets, Met, Enters, Arrives, Passable, Falls, Rule, rule_is}
 use Rattle.soundness.proofs.Outcomes.{Fine, fine-need, fine-cond}
 use Rattle.soundness.proofs.Words.{Words, overlay-word, seen}
 use Rattle.soundness.proofs.Values.{Context, val, num_val, var_val, load_val, same_val, is_val, mk_val, Upto, upto_same, Holds, NoteHolds, Matched, Chain, DestHolds, Means, upd_same, upd_other, chain_end, chain_head, chain_le, chain_push, chain_pop, note_more, matched_push, dest_more, matched_length, matched_none, Popped, matched_pop}

@@ -8,9 +8,8 @@ use Rattle.machine.specs.Machine.{State, Outcome, stop, go, act, settled, Run, c
 use Rattle.rules.specs.Limits.{Limits}
 use Rattle.rules.specs.Notes.{Kind, Notes, next}
 use Rattle.rules.specs.Module.{Module, instr, static}
-use Rattle.memory.specs.Cells.{AreCells}
-use Rattle.soundness.specs.Finding.{unstruck, Lasts, IsReport}
-use Rattle.rules.proofs.Relations.{Sub}
+use Rattle.soundness.specs.Finding.{unstruck, Lasts, IsReport, AreCells}
+use Rattle.soundness.proofs.Rules.{Sub}
 use Rattle.soundness.proofs.Passed.{Passed}
 use Rattle.soundness.proofs.Outcomes.{Goes, Fine}
 use Rattle.soundness.proofs.Words.{Words, act-words, begin-words}

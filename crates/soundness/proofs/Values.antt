@@ -1,7 +1,7 @@
 -- Values of expressions, and what it is for the check's notes to be true of a state.
 use Rattle.std.proofs.Common.{◌≡◌, ℕ, suc, ◌+◌, ◌≤◌, true, cond, eqb, ◌≢◌, List, [], ◌∷◌, ◌++◌, length, sym, refl, ap, ◌∙◌, subst, ap₂, arith}
 use Rattle.std.proofs.lemmas.Bool.{false≢true, eq-eqb, ne_eqb, cond-true, cond-false}
-use Rattle.memory.specs.Cells.{Word, replaced}
+use Rattle.memory.specs.Cells.{replaced}
 use Rattle.isa.specs.Words.{alu}
 use Rattle.machine.specs.declared.queue.Pair.{Pair}
 use Rattle.machine.specs.Pairs.{first, rest, some?, overlay}
@@ -9,7 +9,8 @@ use Rattle.machine.specs.Machine.{State, zero?}
 use Rattle.rules.specs.Expressions.{Arithmetic, Expr, num, var, op, load, Numeral, none, is, num_of, or_zero, fold, mk}
 use Rattle.rules.specs.Notes.{upd, Note, nothing, note, Dest, clear, jump, branch, Pending, Static}
 use Rattle.rules.proofs.Sameness.{same_eq}
-use Rattle.rules.proofs.Relations.{Same}
+use Rattle.soundness.specs.Strikes.{Word}
+use Rattle.soundness.proofs.Rules.{Same}
 
 -- what expressions are valued in: the word of each variable, and the cells after the first k of the block's stores
 pub record Context : Type 0 where

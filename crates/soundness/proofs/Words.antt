@@ -1,7 +1,7 @@
 -- A run over words holds words, under strikes by words too.
 use Rattle.std.proofs.Common.{ℕ, zero, suc, ◌<◌, Bool, true, false, cond, not, eqb, ltb, List, [], ◌∷◌, ◌++◌, length, get_or, set, arith}
 use Rattle.std.proofs.lemmas.Bool.{ltb-true}
-use Rattle.memory.specs.Cells.{Word, AreCells, replaced}
+use Rattle.memory.specs.Cells.{replaced}
 use Rattle.isa.specs.Words.{alu, second_word}
 use Rattle.isa.specs.declared.kinds.Colour.TheVariants.{Green, Blue}
 use Rattle.isa.specs.declared.kinds.Arithmetic.{Arithmetic}
@@ -15,7 +15,8 @@ use Rattle.machine.specs.declared.ends.End.TheVariants.{NoSuchCell, Halted}
 use Rattle.machine.specs.Ends.{going?}
 use Rattle.machine.specs.Pairs.{first, rest, some?, overlay}
 use Rattle.machine.specs.Machine.{State, Outcome, stop, go, need, reg, at, fall, put, zero?, pair?, with_store, with_queue, enqueue, commit, aim, land, halt, exec, act, settled, Run, counted, step, begin}
-use Rattle.soundness.specs.Strikes.{Place, register, counter, destination, address, word, pair_at, strike, Strike, Reached, begun, stepped, struck}
+use Rattle.soundness.specs.Strikes.{Word, Place, register, counter, destination, address, word, pair_at, strike, Strike, Reached, begun, stepped, struck}
+use Rattle.soundness.specs.Finding.{AreCells}
 use Rattle.soundness.proofs.Outcomes.{Goes, goes-need, goes-cond}
 
 abbrev pub AllWords : List Pair → Type 0

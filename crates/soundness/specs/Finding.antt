@@ -1,6 +1,5 @@
 -- What strikes can do to a run of a module that the check has passed.
-use Rattle.std.specs.Prelude.{◌≡◌, ℕ, ◌<◌, ◌≤◌, Bool, ◌⊎◌, List, [], ◌∷◌, length, take, Some, None, Option}
-use Rattle.memory.specs.Cells.{AreWords, AreCells}
+use Rattle.std.specs.Prelude.{◌≡◌, ℕ, ◌<◌, ◌≤◌, Bool, ◌⊎◌, List, [], ◌∷◌, length, take, Some, None, Option, slice_index}
 use Rattle.isa.specs.declared.kinds.Colour.{Colour}
 use Rattle.isa.specs.declared.kinds.Colour.TheVariants.{Green}
 use Rattle.isa.specs.declared.kinds.Kind.{Kind}
@@ -14,7 +13,7 @@ use Rattle.rules.specs.Limits.{Limits}
 use Rattle.rules.specs.Notes.{Note, nothing, note, Notes}
 use Rattle.rules.specs.Module.{Module, static}
 use Rattle.rules.specs.Words.{module_of, Passes}
-use Rattle.soundness.specs.Strikes.{Place, register, counter, destination, address, word, Strike, Reached}
+use Rattle.soundness.specs.Strikes.{Word, Place, register, counter, destination, address, word, Strike, Reached}
 
 -- the run without strikes, after n steps
 abbrev pub unstruck : (ℕ → Bool) → List Kind → (ℕ → ℕ) → ℕ → Run
@@ -76,6 +75,10 @@ abbrev pub AllOf : Colour → (Strike → Option Colour) → List Strike → Typ
 AllOf k colour [] = Unit {0}
 AllOf k colour (x ∷ l) = (Of k (colour x)) × AllOf k colour l
 
+-- at each of the 2^32 addresses stands a word
+abbrev pub AreCells : (ℕ → ℕ) → Type 0
+AreCells cells = (a : ℕ) → Word a → Word (cells a)
+
 -- what is found of a run x that the strikes l have hit
 pub record Outcomes (w : ℕ → Bool) (m : Module) (cells : ℕ → ℕ) (l : List Strike) (x : Run) : Type 0 where
   -- with no strike: as the unstruck run, and no report
@@ -86,6 +89,10 @@ pub record Outcomes (w : ℕ → Bool) (m : Module) (cells : ℕ → ℕ) (l : L
   pub one_colour : (k : Colour) → AllOf k (strike_colour w m cells) l → Found w m.code cells x
   -- whatever was struck, its cells are such that another run can start on them
   pub restartable : AreCells x.state.cells
+
+-- every element is a word
+abbrev pub AreWords : List ℕ → Type 0
+AreWords ws = (i : ℕ) → Word (slice_index ws i)
 
 -- So it is for every module that passes the check, with at most `room` pairs pending, whatever addresses are writable (those at
 -- which w is true), over all cells of words, and at every moment of every run.

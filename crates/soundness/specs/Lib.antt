@@ -1,2 +1,3 @@
 pub mod Strikes
 pub mod Finding
+pub mod Worked

@@ -1,12 +1,16 @@
 -- Strikes: the places of a state at which a word may change by itself, and the runs in which that happens.
-use Rattle.std.specs.Prelude.{◌≡◌, ℕ, Bool, true, List, [], ◌∷◌, length, nat_lt, slice_index_or, slice_set}
-use Rattle.memory.specs.Cells.{Word, replaced}
+use Rattle.std.specs.Prelude.{◌≡◌, ℕ, ◌^◌, ◌<◌, Bool, true, List, [], ◌∷◌, length, nat_lt, slice_index_or, slice_set}
+use Rattle.memory.specs.Cells.{replaced}
 use Rattle.isa.specs.declared.kinds.Colour.{Colour}
 use Rattle.isa.specs.declared.kinds.Colour.TheVariants.{Green, Blue}
 use Rattle.isa.specs.declared.kinds.Kind.{Kind}
 use Rattle.machine.specs.declared.queue.Pair.{Pair}
 use Rattle.machine.specs.declared.ends.End.TheVariants.{Going}
 use Rattle.machine.specs.Machine.{State, with_regs, with_place, with_queue, Run, step, started}
+
+-- a word has 32 bits and no sign
+abbrev pub Word : ℕ → Type 0
+Word n = n < 2 ^ 32
 
 -- a register, a colour's counter, the destination, or the address or the word of a queued pair, the oldest being pair 0
 pub data Place : Type 0 where

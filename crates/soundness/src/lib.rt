@@ -2,6 +2,7 @@
 ghost use Rattle.std.specs.Prelude.{◌≡◌};
 ghost use Rattle.rules.specs.Limits.{in_force};
 ghost use Rattle.soundness.specs.Finding.{Finding};
+ghost use Rattle.soundness.specs.Worked.{WorkedRuns};
 
 // The stores that green may be ahead of blue, by the limits in force.
 fn queue_limit() -> u8
@@ -17,4 +18,18 @@ pub fn strikes_are_found() -> u8
     ensures found { Finding result }
 {
     queue_limit()
+}
+
+// The steps of the worked module.
+fn steps_taken() -> u8
+    ensures { result ≡ 7 }
+{
+    7
+}
+
+// Carries the worked examples of runs, unstruck and struck. Answers how many steps the worked module takes.
+pub fn worked_runs() -> u8
+    ensures { WorkedRuns result }
+{
+    steps_taken()
 }

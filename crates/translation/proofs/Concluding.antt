@@ -90,7 +90,7 @@ module _ (w : ℕ → Bool) (P : Plan) (cells : ℕ → ℕ) (ok : Within in_for
   concluded (stuck s) n R D = D
 
   -- the six variables are set to 0, and then comes the plan
-  whole_run : ((a : ℕ) → Word a → Word (cells a)) → Ends w (compiled P) cells (last (compiled P) w P cells) (end_of (outcome w P cells)) (book_of (outcome w P cells)).cells (pairs (book_of (outcome w P cells)))
+  whole_run : ((a : ℕ) → Word a → Word (cells a)) → Ends w (compiled P) cells (last w P cells) (end_of (outcome w P cells)) (book_of (outcome w P cells)).cells (pairs (book_of (outcome w P cells)))
   whole_run words =
       let m = compiled P in
       let S = standing P in
@@ -100,28 +100,28 @@ module _ (w : ℕ → Bool) (P : Plan) (cells : ℕ → ℕ) (ok : Within in_for
       concluded (meaning w P (blank cells)) (taken w P (blank cells) 6) (λ i. 0)
       (run_plan w m cells short P 6 6 inside (omega arith) (omega (arith, ok.shallow)) ok.proper S.plan (blank cells) 6 (λ i. 0) r λ i _. refl)
 
-  ran : ((a : ℕ) → Word a → Word (cells a)) → Ran (compiled P) w P cells
+  ran : ((a : ℕ) → Word a → Word (cells a)) → Ran w P cells
   ran words =
       let E = whole_run words in
       let d = outcome w P cells in
-      let e : (runs (compiled P) w P cells (last (compiled P) w P cells)).end ≡ end_of d = ap (λ (r : Run). r.end) E.ended in
-      let over : going? (runs (compiled P) w P cells (last (compiled P) w P cells)).end ≡ false = ap going? e ∙ end-over d in
-      let before : (k : ℕ) → k < last (compiled P) w P cells → (runs (compiled P) w P cells k).end ≡ Going =
+      let e : (runs w P cells (last w P cells)).end ≡ end_of d = ap (λ (r : Run). r.end) E.ended in
+      let over : going? (runs w P cells (last w P cells)).end ≡ false = ap going? e ∙ end-over d in
+      let before : (k : ℕ) → k < last w P cells → (runs w P cells k).end ≡ Going =
       λ k h. going_before w (compiled P).code (started cells) E.last k (ap (λ (r : Run). r.end) E.going_then) (omega (arith, E.last_is)) in
-      let later : (k : ℕ) → last (compiled P) w P cells ≤ k → runs (compiled P) w P cells k ≡ runs (compiled P) w P cells (last (compiled P) w P cells) =
-      λ k h. ended_stays w (compiled P).code (started cells) (last (compiled P) w P cells) k over h in
+      let later : (k : ℕ) → last w P cells ≤ k → runs w P cells k ≡ runs w P cells (last w P cells) =
+      λ k h. ended_stays w (compiled P).code (started cells) (last w P cells) k over h in
       record {
         going = before;
         ends = ap number e ∙ end-number d;
         stores = E.made_then;
         count = ap (λ (r : Run). r.state.stores) E.ended ∙ E.count_then ∙ length-map (book_of d).made pair_of;
         leaves = ap (λ (r : Run). r.state.cells) E.ended ∙ E.cells_then;
-        stays = λ k h. (later k h, made_stays w (compiled P).code (started cells) (last (compiled P) w P cells) k over h);
-        quiet = λ k. quiet_at k before later e (dec_lt k (last (compiled P) w P cells));
+        stays = λ k h. (later k h, made_stays w (compiled P).code (started cells) (last w P cells) k over h);
+        quiet = λ k. quiet_at k before later e (dec_lt k (last w P cells));
       }
     where
-      quiet_at : (k : ℕ) → ((k : ℕ) → k < last (compiled P) w P cells → (runs (compiled P) w P cells k).end ≡ Going) → ((k : ℕ) → last (compiled P) w P cells ≤ k → runs (compiled P) w P cells k ≡ runs (compiled P) w P cells (last (compiled P) w P cells)) →
-          (runs (compiled P) w P cells (last (compiled P) w P cells)).end ≡ end_of (outcome w P cells) → Dec (k < last (compiled P) w P cells) → number (runs (compiled P) w P cells k).end < 3
+      quiet_at : (k : ℕ) → ((k : ℕ) → k < last w P cells → (runs w P cells k).end ≡ Going) → ((k : ℕ) → last w P cells ≤ k → runs w P cells k ≡ runs w P cells (last w P cells)) →
+          (runs w P cells (last w P cells)).end ≡ end_of (outcome w P cells) → Dec (k < last w P cells) → number (runs w P cells k).end < 3
       quiet_at k before later e (yes h) = omega (arith, ap number (before k h))
       quiet_at k before later e (no h) = omega (arith, ap (λ (r : Run). number r.end) (later k (omega arith)), ap number e, end_low (outcome w P cells))
 

@@ -14,7 +14,6 @@ use Rattle.rules.specs.Cards.{Slot, free, slot, Card, Block}
 use Rattle.rules.specs.Module.{Module, size, instr, Keeps}
 use Rattle.rules.specs.Words.{slot_of, block_of, module_of}
 use Rattle.language.specs.Plans.{Plan}
-use Rattle.rules.specs.Limits.{in_force as modules}
 use Rattle.language.specs.Limits.{repeats, in_force, Within}
 use Rattle.translation.specs.Cards.{card}
 use Rattle.translation.specs.Code.{Entry, inside, start, Code, stop, line, twice, block_at, blocks_from, build}
@@ -90,7 +89,7 @@ module _ (P : Plan) (ok : Within in_force P) (ws : List ℕ) (W : Written ws (co
   module_is : module_of ws ≡ compiled P
   module_is j = record { code = code_is j; blocks = blocks_are j }
 
-  code_fits_lem : code_fits modules ws ≡ true
+  code_fits_lem : code_fits ws ≡ true
   code_fits_lem =
       and_both
       (and_both
@@ -158,5 +157,5 @@ module _ (P : Plan) (ok : Within in_force P) (ws : List ℕ) (W : Written ws (co
 pub words_pass : WordsPass
 words_pass P ok ws W = (
   module_is P ok ws W,
-  (code_fits_lem P ok ws W, blocks_fit P ok ws W, subst⁻¹ (Keeps modules) (module_is P ok ws W) ((code_checked P ok).rules modules (omega arith))),
+  λ L l. (code_fits_lem P ok ws W, blocks_fit P ok ws W, subst⁻¹ (Keeps L) (module_is P ok ws W) ((code_checked P ok).rules L l)),
 )

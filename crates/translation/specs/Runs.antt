@@ -4,7 +4,6 @@ use Rattle.machine.specs.declared.queue.Pair.{Pair}
 use Rattle.machine.specs.declared.ends.End.TheVariants.{Going}
 use Rattle.machine.specs.Ends.{number}
 use Rattle.machine.specs.Machine.{Run, after, made, started}
-use Rattle.rules.specs.Module.{Module}
 use Rattle.language.specs.Plans.{Plan}
 use Rattle.language.specs.Meaning.{Store, book_of, ending, outcome}
 use Rattle.language.specs.Limits.{Within, in_force}
@@ -15,19 +14,18 @@ use Rattle.translation.specs.Steps.{steps}
 abbrev pub pair_of : Store → Pair
 pair_of s = record { address = s.address; word = s.word }
 
-module _ (m : Module) (w : ℕ → Bool) (P : Plan) (cells : ℕ → ℕ) where
-  -- the run of the module's code after k steps, without a strike
+module _ (w : ℕ → Bool) (P : Plan) (cells : ℕ → ℕ) where
+  -- the run of the plan's code after k steps, without a strike
   abbrev pub runs : ℕ → Run
-  runs k = after w m.code (started cells) k
+  runs k = after w (compiled P).code (started cells) k
 
   -- the stores that it has made then
   abbrev pub makes : ℕ → List Pair
-  makes k = made w m.code (started cells) k
+  makes k = made w (compiled P).code (started cells) k
 
   abbrev pub last : ℕ
   last = steps w P cells
 
-  -- the run does what the plan means
   pub record Ran : Type 0 where
     -- it does not end before
     pub going : (k : ℕ) → k < last → (runs k).end ≡ Going
@@ -45,4 +43,4 @@ module _ (m : Module) (w : ℕ → Bool) (P : Plan) (cells : ℕ → ℕ) where
 
 -- of every plan within the limits, over all cells that hold words, writable or not
 abbrev pub CodeRuns : Type 0
-CodeRuns = (P : Plan) → Within in_force P → (w : ℕ → Bool) (cells : ℕ → ℕ) → ((a : ℕ) → a < 2 ^ 32 → cells a < 2 ^ 32) → Ran (compiled P) w P cells
+CodeRuns = (P : Plan) → Within in_force P → (w : ℕ → Bool) (cells : ℕ → ℕ) → ((a : ℕ) → a < 2 ^ 32 → cells a < 2 ^ 32) → Ran w P cells

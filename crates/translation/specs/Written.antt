@@ -2,7 +2,7 @@
 use Rattle.std.specs.Prelude.{◌≡◌, ℕ, ◌+◌, ◌*◌, ◌<◌, ◌≤◌, List, length, slice_index_or, refl}
 use Rattle.isa.specs.Words.{first_word, second_word}
 use Rattle.isa.specs.Layout.{word, start_at, card_byte, slot_byte}
-use Rattle.rules.specs.Limits.{in_force as modules}
+use Rattle.rules.specs.Limits.{Limits}
 use Rattle.rules.specs.Cards.{Block, free}
 use Rattle.rules.specs.Module.{Module, size, instr}
 use Rattle.rules.specs.Words.{module_of, Passes}
@@ -31,4 +31,4 @@ pub record Written (ws : List ℕ) (m : Module) : Type 0 where
 -- the words of a plan's code are read as that code, and pass the check
 abbrev pub WordsPass : Type 0
 WordsPass = (P : Plan) → Within in_force P → (ws : List ℕ) → Written ws (compiled P) →
-    (module_of ws ≡ compiled P) × Passes modules ws
+    (module_of ws ≡ compiled P) × ((L : Limits) → 1 ≤ L.queue → Passes L ws)

@@ -25,7 +25,7 @@ impl Checker {
 
     // Reads the blocks of a module.
     fn read_blocks(&mut self, words: &[u32], shape: Shape)
-        requires laid { LaidOut in_force words.now }
+        requires laid { LaidOut words.now }
         requires instructions { shape.instructions ≡ word words.now 0 }
         requires blocks { shape.blocks ≡ word words.now 1 }
         ensures { self.new.blocks.items ≡ (module_of words.now).blocks }
@@ -51,7 +51,7 @@ impl Checker {
 
     // Checks the blocks of a module in their order.
     fn check_blocks(&mut self, words: &[u32], shape: Shape) -> Result<(), CheckFault>
-        requires laid { LaidOut in_force words.now }
+        requires laid { LaidOut words.now }
         requires instructions { shape.instructions ≡ word words.now 0 }
         requires blocks { shape.blocks ≡ word words.now 1 }
         requires read { self.old.blocks.items ≡ (module_of words.now).blocks }

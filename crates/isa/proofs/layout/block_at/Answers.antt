@@ -10,5 +10,5 @@ loop-register-preserved c =
       simp length-set c.loop-register.invariant.0,
       below_more _ _
           (λ k h t. let ne : k ≢ i = omega arith in ap slot_byte (get_or-set_other l i k _ _ ne) ∙ c.loop-register.invariant.1 k h t)
-          (λ t. ap slot_byte (get_or-set_same l i _ _ low) ∙ c.slot-at.ensures.read t),
+          (λ t. ap slot_byte (get_or-set_same l i _ _ low) ∙ c.slot_at.ensures.read t),
     )

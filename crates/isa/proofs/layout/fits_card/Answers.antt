@@ -8,5 +8,5 @@ loop-register-init c = every-none _
 pub loop-register-preserved : goal.loop-register-preserved
 loop-register-preserved c = search (rules, every_more)
 
-pub returns-then-not-fits-slot : goal.returns-then-not-fits-slot
-returns-then-not-fits-slot c = every_fails 32 c.loop-register.register _ (search rules) (search rules)
+pub returns-then-not-fits_slot : goal.returns-then-not-fits_slot
+returns-then-not-fits_slot c = every_fails 32 c.loop-register.register _ (search rules) (search rules)

@@ -8,5 +8,5 @@ loop-place-init c = every-none _
 pub loop-place-preserved : goal.loop-place-preserved
 loop-place-preserved c = search (rules, every_more)
 
-pub returns-then-not-fits-instruction : goal.returns-then-not-fits-instruction
-returns-then-not-fits-instruction c = every_fails _ c.loop-place.place _ (search rules) (search rules)
+pub returns-then-not-fits_instruction : goal.returns-then-not-fits_instruction
+returns-then-not-fits_instruction c = every_fails _ c.loop-place.place _ (search rules) (search rules)

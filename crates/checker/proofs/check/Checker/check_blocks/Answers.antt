@@ -9,20 +9,20 @@ use Rattle.checker.specs.Faults.{Faulty}
 use Rattle.checker.proofs.check.Checker.check_blocks.Goals as goal
 
 pub loop-b-init : goal.loop-b-init
-loop-b-init c = let e = edge-first in_force c.args.words.now c.requires.laid in ((λ q h. absurd (omega arith)), c.requires.read)
+loop-b-init c = let e = edge-first c.args.words.now c.requires.laid in ((λ q h. absurd (omega arith)), c.requires.read)
 
 pub code-requires : goal.code-requires
 code-requires c =
     let ws = c.args.words.now in
     let low : c.loop-b.b < word ws 1 = omega arith in
-    let l = lies in_force ws c.requires.laid c.loop-b.b _ _ low c.edge-from.ensures c.edge-to.ensures in
+    let l = lies ws c.requires.laid c.loop-b.b _ _ low c.edge-from.ensures c.edge-to.ensures in
     record { order = omega arith; within = l.within }
 
 pub check-part-requires : goal.check-part-requires
 check-part-requires c =
     let ws = c.args.words.now in
     let low : c.loop-b.b < word ws 1 = omega arith in
-    let l = lies in_force ws c.requires.laid c.loop-b.b _ _ low c.edge-from.ensures c.edge-to.ensures in
+    let l = lies ws c.requires.laid c.loop-b.b _ _ low c.edge-from.ensures c.edge-to.ensures in
     let n = ap length c.code.ensures ∙ length-between ws (2 + 2 * c.edge-from.result) (2 + 2 * c.edge-to.result) l.within in
     let m = ap length c.loop-b.invariant.1 ∙ length-map-range_with_len (block_of ws (word ws 0)) 0 (word ws 1) in
     let v = c.loop-b.self.blocks.ok.0 in

@@ -2,7 +2,6 @@ use Rattle.std.proofs.Common.{◌≡◌, ◌<◌, [], ◌∷◌, ◌++◌, map, 
 use Rattle.std.specs.List.{range_with_len}
 use Rattle.std.proofs.lemmas.List.FromFn.{length-map-range_with_len, map-range_with_len_more}
 use Rattle.isa.specs.Layout.{word}
-use Rattle.rules.specs.Limits.{in_force}
 use Rattle.rules.specs.Words.{block_of}
 use Rattle.rules.proofs.Layouts.{few}
 use Rattle.rules.proofs.Parts.{read_block}
@@ -11,7 +10,7 @@ use Rattle.checker.proofs.check.Checker.read_blocks.Goals as goal
 pub push-reserved-requires : goal.push-reserved-requires
 push-reserved-requires c =
     let ws = c.args.words.now in
-    let f = few in_force ws c.requires.laid.code in
+    let f = few ws c.requires.laid.code in
     let l = ap length c.loop-b.invariant ∙ length-map-range_with_len (block_of ws (word ws 0)) 0 c.loop-b.b in
     let v = c.loop-b.self.blocks.ok.0 in
     let r = c.loop-b.self.room in

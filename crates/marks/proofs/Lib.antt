@@ -1,4 +1,0 @@
-mod Every
-mod Same
-mod Scanning
-mod Spelled

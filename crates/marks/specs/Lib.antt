@@ -1,4 +1,0 @@
-pub mod Endings
-pub mod Finding
-pub mod Spelling
-pub mod Texts

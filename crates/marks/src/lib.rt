@@ -1,8 +1,0 @@
-// The marks of a text: its words, numbers and signs, and where they end.
-mod access;
-pub mod fault;
-pub mod limits;
-mod scan;
-pub mod text;
-pub mod unique;
-mod word;

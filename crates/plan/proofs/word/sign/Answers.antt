@@ -1,0 +1,18 @@
+use Rattle.std.proofs.Common.{arith}
+use Rattle.plan.proofs.Spelled.{no_sign}
+use Rattle.plan.proofs.word.sign.Goals as goal
+
+pub returns-in-default : goal.returns-in-default
+returns-in-default c = no_sign c.args.byte c.requires record {
+  line_end = λ e. omega (arith, e);
+  add = λ e. omega (arith, e);
+  sub = λ e. omega (arith, e);
+  mul = λ e. omega (arith, e);
+  lt = λ e. omega (arith, e);
+  open_round = λ e. omega (arith, e);
+  close_round = λ e. omega (arith, e);
+  open_square = λ e. omega (arith, e);
+  close_square = λ e. omega (arith, e);
+  comma = λ e. omega (arith, e);
+  equals = λ e. omega (arith, e);
+}

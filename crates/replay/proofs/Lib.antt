@@ -1,3 +1,0 @@
-mod Replaying
-mod Standing
-mod Striking

@@ -1,2 +1,0 @@
--- Scripts: the command that a line is.
-pub mod Commands

@@ -1,3 +1,0 @@
-// Scripts: the command that a line is.
-pub mod command;
-mod verb;

@@ -1,2 +1,0 @@
--- The calls that a script makes.
-pub mod Acts

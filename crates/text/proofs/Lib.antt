@@ -1,4 +1,0 @@
-mod Running
-mod Reading
-mod Placing
-mod Listing

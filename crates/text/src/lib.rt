@@ -1,5 +1,0 @@
-// Text as hosts write it: words, numbers and lists of them; lines and columns of a byte.
-pub mod bytes;
-pub mod list;
-pub mod number;
-pub mod place;

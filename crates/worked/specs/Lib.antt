@@ -1,4 +1,0 @@
-pub mod Modules
-pub mod Runs
-pub mod Verdicts
-pub mod Examples
