@@ -1,4 +1,6 @@
 // The check of one block: it decides the block's rules over shared expressions.
+#![tactic(auto)]
+
 mod node;
 mod note;
 mod notes;

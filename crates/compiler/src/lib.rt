@@ -1,5 +1,7 @@
 // The compiler: a plan's tables to code over twin registers, and that code, doubled, to the words of
 // a module.
+#![tactic(auto)]
+
 pub mod compile;
 pub mod double;
 pub mod fault;

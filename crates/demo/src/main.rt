@@ -1,4 +1,6 @@
 // One task from the plan's text to a struck run, told as it is done.
+#![tactic(auto)]
+
 mod journal;
 mod listing;
 mod runs;

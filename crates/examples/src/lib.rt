@@ -1,4 +1,6 @@
 // The worked examples of docs/, run.
+#![tactic(auto)]
+
 #[cfg(test)]
 mod bench;
 #[cfg(test)]

@@ -1,4 +1,6 @@
 // The grammar of plans over the marks of a text, and which fault is the first.
+#![tactic(auto)]
+
 ghost use Rattle.grammar.specs.Verdict.{Decided};
 
 pub mod mark;

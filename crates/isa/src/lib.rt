@@ -1,4 +1,6 @@
 // The instructions, their words, and the layout of a module.
+#![tactic(auto)]
+
 pub mod card;
 pub mod encode;
 pub mod instruction;

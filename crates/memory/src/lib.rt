@@ -1,4 +1,6 @@
 // Cell memories: what every memory promises, and the kinds that come with the product.
+#![tactic(auto)]
+
 ghost use Rattle.std.specs.Prelude.{◌≡◌, ℕ, length, is_ok, nat_lt, slice_index};
 ghost use Rattle.memory.specs.Cells.{Cells, stored};
 

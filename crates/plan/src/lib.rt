@@ -1,4 +1,6 @@
 // The plan language: its marks, its reader, and the tables of a plan.
+#![tactic(auto)]
+
 pub mod access;
 mod expression;
 pub mod fault;

@@ -1,4 +1,6 @@
 // The simulator: runs of checked code over any memory, with strikes on command.
+#![tactic(auto)]
+
 pub mod call;
 mod fill;
 mod latch;

@@ -1,4 +1,6 @@
 // Checked code under strikes: a word of the machine that changes by itself either leaves the run as it is, or is found.
+#![tactic(auto)]
+
 ghost use Rattle.std.specs.Prelude.{◌≡◌};
 ghost use Rattle.rules.specs.Limits.{in_force};
 ghost use Rattle.soundness.specs.Finding.{Finding};

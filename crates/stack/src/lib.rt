@@ -1,4 +1,6 @@
 // A stack whose memory is lent to it.
+#![tactic(auto)]
+
 ghost use Rattle.std.specs.Prelude.{◌≡◌, [], length};
 ghost use Rattle.stack.specs.Items.{items, room, Pushed, Popped};
 

@@ -12,7 +12,7 @@ more v x ds i l e h = ap (λ y. value (v * 10 + y) (drop (i + 1) ds)) e ∙ sym 
 pub loop-digit-preserved : goal.loop-digit-preserved
 loop-digit-preserved c = (
   omega (arith, c.if-value-gt4294967295.false),
-  more c.loop-digit.value c.from.result c.args.digits.now c.loop-digit.digit-index c.loop-digit-test.true (c.from.ensures ∙ c.saturating-sub.ensures) c.loop-digit.invariant.1,
+  more c.loop-digit.value c.from.result c.args.digits.now c.loop-digit.digit-index c.loop-digit-test.true (c.from.ensures ∙ c.saturating_sub.ensures) c.loop-digit.invariant.1,
 )
 
 pub returns-then-value-gt4294967295 : goal.returns-then-value-gt4294967295
@@ -21,7 +21,7 @@ returns-then-value-gt4294967295 c =
     let v = c.loop-digit.value in
     let i = c.loop-digit.digit-index in
     let x = c.from.result in
-    let step = more v x ds i c.loop-digit-test.true (c.from.ensures ∙ c.saturating-sub.ensures) c.loop-digit.invariant.1 in
+    let step = more v x ds i c.loop-digit-test.true (c.from.ensures ∙ c.saturating_sub.ensures) c.loop-digit.invariant.1 in
     let up = value_up (v * 10 + x) (drop (i + 1) ds) in
     no_number ds (c.requires.digits 0 c.requires.some) λ n h. omega (arith, h.is, h.small, step, up, c.if-value-gt4294967295.true)
 

@@ -2,8 +2,8 @@ use Rattle.std.proofs.Common.{arith}
 use Rattle.plan.proofs.Spelled.{no_sign}
 use Rattle.plan.proofs.word.sign.Goals as goal
 
-pub returns-in-default : goal.returns-in-default
-returns-in-default c = no_sign c.args.byte c.requires record {
+pub returns-in_default : goal.returns-in_default
+returns-in_default c = no_sign c.args.byte c.requires record {
   line_end = λ e. omega (arith, e);
   add = λ e. omega (arith, e);
   sub = λ e. omega (arith, e);

@@ -15,7 +15,7 @@ loop-i-init c =
 pub loop-i-preserved : goal.loop-i-preserved
 loop-i-preserved c =
     let p = c.if-not-place.ensures in
-    let n = c.count-of-count.ensures.value in
+    let n = c.count_of-count.ensures.value in
     let x = kind_at c.args.part.now c.loop-i.i _ (omega arith) c.decode-instruction.ensures.value in
     let v = c.loop-i.invariant.0 in (
       place-goes _ _ c.loop-i.i _ _ _ x v (p.after refl),
@@ -27,9 +27,9 @@ loop-i-preserved c =
 
 pub returns-then-not-place : goal.returns-then-not-place
 returns-then-not-place c =
-    let n = c.count-of-count.ensures.value in
+    let n = c.count_of-count.ensures.value in
     let x = kind_at c.args.part.now c.loop-i.i _ (omega arith) c.decode-instruction.ensures.value in
     (omega arith, c.loop-i.invariant.1, place_kept _ in_force _ _ _ _ _ c.loop-i.i _ _ n x c.loop-i.invariant.0 c.if-not-place.ensures.answer)
 
 pub returns : goal.returns
-returns c = let n = c.count-of-count.ensures.value in λ k h. c.loop-i.invariant.1 k (omega arith)
+returns c = let n = c.count_of-count.ensures.value in λ k h. c.loop-i.invariant.1 k (omega arith)

@@ -2,8 +2,8 @@ use Rattle.std.proofs.Common.{arith, rules}
 use Rattle.blocks.proofs.Blocks.{nothing_below, no_pairs_below, view-none}
 use Rattle.blocks.proofs.state.State.forget.Goals as goal
 
-pub invariant-of-self : goal.invariant-of-self
-invariant-of-self c = (search rules, (nothing_below _ _ c.clear.ensures, (no_pairs_below _ _ c.clear-2.ensures.items, (omega arith, tt))))
+pub invariant_of-self : goal.invariant_of-self
+invariant_of-self c = (search rules, (nothing_below _ _ c.clear.ensures, (no_pairs_below _ _ c.clear-2.ensures.items, (omega arith, tt))))
 
 pub returns : goal.returns
 returns c = record { after = view-none _ _ _ c.clear.ensures c.clear-2.ensures.items; entries = search rules }

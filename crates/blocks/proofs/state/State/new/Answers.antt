@@ -2,6 +2,6 @@ use Rattle.std.proofs.Common.{arith, rules}
 use Rattle.blocks.proofs.Blocks.{nothing_below, no_pairs_below}
 use Rattle.blocks.proofs.state.State.new.Goals as goal
 
-pub invariant-of-result : goal.invariant-of-result
-invariant-of-result c =
-    (search rules, (nothing_below _ _ c.in-ok-notes.ensures, (no_pairs_below _ _ c.in-ok-pending.ensures.0, (omega arith, tt))))
+pub invariant_of-result : goal.invariant_of-result
+invariant_of-result c =
+    (search rules, (nothing_below _ _ c.in_ok-notes.ensures, (no_pairs_below _ _ c.in_ok-pending.ensures.0, (omega arith, tt))))

@@ -9,10 +9,10 @@ use Rattle.blocks.proofs.state.State.pop.Goals as goal
 pub remove-requires : goal.remove-requires
 remove-requires c =
     let s = c.args.self.now in
-    let some = oldest_some (known s) (vec_items s.pending) _ _ c.if-not-is-oldest.ensures in search rules
+    let some = oldest_some (known s) (vec_items s.pending) _ _ c.if-not-is_oldest.ensures in search rules
 
-pub invariant-of-self : goal.invariant-of-self
-invariant-of-self c =
+pub invariant_of-self : goal.invariant_of-self
+invariant_of-self c =
     let s = c.args.self.now in
     let p = c.remove.ensures in
     let cap : 16 ≤ vec_capacity c.remove.new.self = search rules in

@@ -5,8 +5,8 @@ use Rattle.blocks.specs.View.{known, view}
 use Rattle.blocks.proofs.Views.{below_write, notes_write}
 use Rattle.blocks.proofs.state.State.write.Goals as goal
 
-pub invariant-of-self : goal.invariant-of-self
-invariant-of-self c =
+pub invariant_of-self : goal.invariant_of-self
+invariant_of-self c =
     let s = c.args.self.now in
     let low : c.args.a.number < length (vec_items s.notes.all) = search rules in
     (s.room, (below_write _ (vec_items s.notes.all) c.args.a.number _ low s.noted c.requires.entry, (s.queued, (s.bound, tt))))

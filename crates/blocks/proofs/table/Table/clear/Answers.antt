@@ -3,8 +3,8 @@ use Rattle.blocks.specs.Trees.{room}
 use Rattle.blocks.proofs.Entries.{empty_closed, empty_once}
 use Rattle.blocks.proofs.table.Table.clear.Goals as goal
 
-pub invariant-of-self : goal.invariant-of-self
-invariant-of-self c =
+pub invariant_of-self : goal.invariant_of-self
+invariant_of-self c =
     let e = c.clear.ensures.items in
     let cap : room ≤ vec_capacity c.clear.new.self = search rules in
     (cap, (empty_closed _ e, (empty_once _ e, tt)))

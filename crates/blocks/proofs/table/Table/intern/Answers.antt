@@ -5,15 +5,15 @@ use Rattle.rules.specs.Expressions.{num}
 use Rattle.blocks.proofs.Entries.{push_closed, push_once, push_tree, push_kept, tree_at}
 use Rattle.blocks.proofs.table.Table.intern.Goals as goal
 
-pub invariant-of-self : goal.invariant-of-self
-invariant-of-self c =
+pub invariant_of-self : goal.invariant_of-self
+invariant_of-self c =
     let t = c.args.self.now in
     let ns = vec_items t.nodes in
     let n = c.args.node in
     let low : reach n ≤ length ns = search rules in
-    let p = c.push-reserved.ensures in
+    let p = c.push_reserved.ensures in
     let P : List Node → Type 0 = λ l. Once (trees l) in
-    let cap : room ≤ vec_capacity c.push-reserved.new.self = search rules in
+    let cap : room ≤ vec_capacity c.push_reserved.new.self = search rules in
     (cap, (subst Closed (sym p.items) (push_closed ns n t.closed low), (subst P (sym p.items) (push_once ns n t.closed low t.once c.in-None.ensures), tt)))
 
 pub returns-in-Some : goal.returns-in-Some
@@ -35,7 +35,7 @@ returns-in-None c =
     let ns = vec_items t.nodes in
     let n = c.args.node in
     let low : reach n ≤ length ns = search rules in
-    let p = c.push-reserved.ensures in
+    let p = c.push_reserved.ensures in
     let at_end : c.len-index.result ≡ length ns = search rules in
     let P : List Node → Type 0 = λ l. Kept (trees ns) (trees l) in
     record {

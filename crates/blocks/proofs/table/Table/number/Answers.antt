@@ -8,8 +8,8 @@ returns-in-Number c =
     let low : c.args.x.index < length ns = search rules in
     num_read ns c.args.x _ _ c.args.self.now.closed low c.index-node.ensures ∙ ap node_numeral c.in-Number.is
 
-pub returns-in-default : goal.returns-in-default
-returns-in-default c =
+pub returns-in_default : goal.returns-in_default
+returns-in_default c =
     let ns = vec_items c.args.self.now.nodes in
     let low : c.args.x.index < length ns = search rules in
-    num_read ns c.args.x _ _ c.args.self.now.closed low c.index-node.ensures ∙ no_number _ c.in-default.not-Number
+    num_read ns c.args.x _ _ c.args.self.now.closed low c.index-node.ensures ∙ no_number _ c.in_default.not-Number

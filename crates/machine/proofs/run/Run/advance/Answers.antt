@@ -20,8 +20,8 @@ loop-taken-preserved g c =
           ∙ ap (step w code) inv.4 ∙ ap (after w code from) (sym (add-one c.loop-taken.taken)),
     )
 
-pub returns-else-is-going : goal.returns-else-is-going
-returns-else-is-going g c =
+pub returns-else-is_going : goal.returns-else-is_going
+returns-else-is_going g c =
     let m = g.M.Memory in
     let w = (m.cells c.args.memory.now).writable in
     let code = kinds c.args.code.now in
@@ -32,7 +32,7 @@ returns-else-is-going g c =
     let rest = c.allowed-most.result - k in
     let all : k + rest ≡ min c.args.n (1000000000 - c.args.self.now.steps) = omega (arith, c.allowed-most.ensures) in
     record {
-      does = sym (stays w code to (sym c.if-is-going.ensures) rest) ∙ ap (λ x. after w code x rest) inv.4
+      does = sym (stays w code to (sym c.if-is_going.ensures) rest) ∙ ap (λ x. after w code x rest) inv.4
           ∙ further w code from k rest ∙ ap (after w code from) all;
       same = inv.3;
       taken = sym inv.1;

@@ -23,8 +23,8 @@ loop-at-preserved c =
     let inv = c.loop-at.invariant in
     let t = c.args.text.now in
     let l = c.loop-at-test.true in
-    let f = c.in-ok-found.ensures in
-    let x = c.in-ok-found.found in
+    let f = c.in_ok-found.ensures in
+    let x = c.in_ok-found.found in
     let q = c.push.ensures in
     let ps₀ = vec_items c.loop-at.self.placed in (
       omega (arith, inv.0, q.len, f.within.0),
@@ -34,18 +34,18 @@ loop-at-preserved c =
           (inv.3 (record { mark = x.0; place = c.loop-at.at } ∷ ps) z (scan_mark t c.loop-at.at l x.0 f.found.1 (subst (λ n. Scanned (drop n t) n ps z) f.found.0 h))),
     )
 
-pub returns-in-err-found : goal.returns-in-err-found
-returns-in-err-found c =
+pub returns-in_err-found : goal.returns-in_err-found
+returns-in_err-found c =
     let inv = c.loop-at.invariant in
     let t = c.args.text.now in
     let l = c.loop-at-test.true in
-    let f = c.in-err-found.ensures in
-    let e = c.in-err-found.field-0.0 in
+    let f = c.in_err-found.ensures in
+    let e = c.in_err-found.field-0.0 in
     let ps = vec_items c.loop-at.self.placed in
     let s = subst (λ r. Scanned t 0 r (strange c.loop-at.at)) (append-nil ps) (inv.3 [] (strange c.loop-at.at) (scan_strange t c.loop-at.at l c.if-text-at-eq32.false f.found.1)) in
     record {
       few = omega (arith, inv.0, inv.1);
-      scanned = scanned_err t ps c.loop-at.at c.from-residual.result e c.from-residual.ensures.1 f.found.0 s;
+      scanned = scanned_err t ps c.loop-at.at c.from_residual.result e c.from_residual.ensures.1 f.found.0 s;
     }
 
 pub returns : goal.returns

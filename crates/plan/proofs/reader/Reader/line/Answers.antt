@@ -5,8 +5,8 @@ use Rattle.plan.specs.Reading.{Opened}
 use Rattle.plan.proofs.Opening.{opened_more, opened_pushed, opened_rest, opened_last, spare_behind, onward_behind, less_behind, made_all}
 use Rattle.plan.proofs.reader.Reader.line.Goals as goal
 
-pub end-line-requires : goal.end-line-requires
-end-line-requires c =
+pub end_line-requires : goal.end_line-requires
+end_line-requires c =
     let a = c.args.self.now in
     let q = c.skip-in-End.ensures in
     let x = opened_last a.plan c.in-Some.repeat (items c.pop.new.self) (subst (Opened a.plan) c.in-Some.ensures.popped c.requires.opened) in
@@ -53,7 +53,7 @@ returns-in-ok-repeat c =
     let a = c.args.self.now in
     let q = c.skip-in-Repeat.ensures in
     let b = c.skip-in-Repeat.new.self in
-    let z = c.repeat-line.new.self in
+    let z = c.repeat_line.new.self in
     let r = c.in-ok-repeat.ensures in
     let x = c.in-ok-repeat.repeat in
     let o = onward_behind a b z c.args.mark c.requires.seen q.rest q.plan q.marks r.onward in
@@ -70,7 +70,7 @@ returns-in-err-repeat c =
     let a = c.args.self.now in
     let q = c.skip-in-Repeat.ensures in
     let b = c.skip-in-Repeat.new.self in
-    let z = c.repeat-line.new.self in
+    let z = c.repeat_line.new.self in
     let r = c.in-err-repeat.ensures in
     let o = onward_behind a b z c.args.mark c.requires.seen q.rest q.plan q.marks r.onward in
     record {
@@ -86,14 +86,14 @@ returns-in-Some c =
     let a = c.args.self.now in
     let q = c.skip-in-End.ensures in
     let b = c.skip-in-End.new.self in
-    let z = c.end-line.new.self in
-    let r = c.end-line.ensures in
+    let z = c.end_line.new.self in
+    let r = c.end_line.ensures in
     let o = onward_behind a b z c.args.mark c.requires.seen q.rest q.plan q.marks r in
     let left = opened_rest a.plan c.in-Some.repeat (items c.pop.new.self) (subst (Opened a.plan) c.in-Some.ensures.popped c.requires.opened) in
     record {
       depth = search rules;
       onward = o;
-      less = made_all c.end-line.result _ (less_behind a b z c.args.mark c.requires.seen q.rest q.plan r);
+      less = made_all c.end_line.result _ (less_behind a b z c.args.mark c.requires.seen q.rest q.plan r);
       opened = opened_more a.plan z.plan (items c.pop.new.self) o.longer o.dearer left;
       slots = c.in-Some.ensures.room ∙ c.requires.slots;
     }

@@ -4,11 +4,11 @@ use Rattle.plan.specs.Tables.{reach, Closed}
 use Rattle.plan.proofs.Growing.{each_push}
 use Rattle.plan.proofs.tables.Plan.add_node.Goals as goal
 
-pub invariant-of-self : goal.invariant-of-self
-invariant-of-self c =
+pub invariant_of-self : goal.invariant_of-self
+invariant_of-self c =
     let p = c.args.self.now in
     let ns = vec_items p.nodes in
-    let q = c.push-reserved.ensures in
+    let q = c.push_reserved.ensures in
     let low : reach c.args.node ≤ length ns = omega (arith, c.requires.children, p.nodes.ok.0) in
     let closed = subst Closed (sym q.items) (each_push (Number 0) reach (λ k. k) ns c.args.node p.closed low) in
     ((omega (arith, p.room.0, q.capacity), p.room.1), ((omega (arith, c.requires.room, q.len), p.few.1), (closed, ((λ k h. omega (arith, p.rooted k h, q.len)), (p.owned, (p.looped, tt))))))
