@@ -20,8 +20,8 @@ pub const MOST_STEPS: u32 = 1_000_000_000;
 impl Latches {
     // What a load of this colour sees at an address.
     fn look<M: Memory>(&self, colour: Colour, address: u32, memory: &mut M) -> u32
-        ensures value { result ≡ seen colour (queued self.now.queue) (cells memory.old).word address }
-        ensures same { cells memory.new ≡ cells memory.old }
+        ensures value { result ≡ seen colour (queued self.now.queue) (M.Memory.cells memory.old).word address }
+        ensures same { M.Memory.cells memory.new ≡ M.Memory.cells memory.old }
     {
         match colour {
             Colour::Green => match self.queue.find(address) {
@@ -50,8 +50,8 @@ impl Run {
         requires green { self.old.latches.green < 1024 }
         requires blue { self.old.latches.blue < 1024 }
         requires few { self.old.stores < self.old.steps }
-        ensures does { (result, state_of self.new (cells memory.new)) ≡ settled (state_of self.old (cells memory.old)) (commit (cells memory.old).writable (state_of self.old (cells memory.old)) address word) }
-        ensures same { (cells memory.new).writable ≡ (cells memory.old).writable }
+        ensures does { (result, state_of self.new (M.Memory.cells memory.new)) ≡ settled (state_of self.old (M.Memory.cells memory.old)) (commit (M.Memory.cells memory.old).writable (state_of self.old (M.Memory.cells memory.old)) address word) }
+        ensures same { (M.Memory.cells memory.new).writable ≡ (M.Memory.cells memory.old).writable }
         ensures steps { self.new.steps ≡ self.old.steps }
     {
         let Some(oldest) = self.latches.queue.oldest() else {
@@ -75,8 +75,8 @@ impl Run {
         requires green { self.old.latches.green < 1024 }
         requires blue { self.old.latches.blue < 1024 }
         requires few { self.old.stores < self.old.steps }
-        ensures does { (result, state_of self.new (cells memory.new)) ≡ settled (state_of self.old (cells memory.old)) (exec (cells memory.old).writable kind (state_of self.old (cells memory.old))) }
-        ensures same { (cells memory.new).writable ≡ (cells memory.old).writable }
+        ensures does { (result, state_of self.new (M.Memory.cells memory.new)) ≡ settled (state_of self.old (M.Memory.cells memory.old)) (exec (M.Memory.cells memory.old).writable kind (state_of self.old (M.Memory.cells memory.old))) }
+        ensures same { (M.Memory.cells memory.new).writable ≡ (M.Memory.cells memory.old).writable }
         ensures steps { self.new.steps ≡ self.old.steps }
     {
         match kind {
@@ -118,8 +118,8 @@ impl Run {
     // The instruction that both counters name.
     fn act<M: Memory>(&mut self, code: &Code, memory: &mut M) -> End
         requires few { self.old.stores < self.old.steps }
-        ensures does { (result, state_of self.new (cells memory.new)) ≡ settled (state_of self.old (cells memory.old)) (act (cells memory.old).writable (kinds code.now) (state_of self.old (cells memory.old))) }
-        ensures same { (cells memory.new).writable ≡ (cells memory.old).writable }
+        ensures does { (result, state_of self.new (M.Memory.cells memory.new)) ≡ settled (state_of self.old (M.Memory.cells memory.old)) (act (M.Memory.cells memory.old).writable (kinds code.now) (state_of self.old (M.Memory.cells memory.old))) }
+        ensures same { (M.Memory.cells memory.new).writable ≡ (M.Memory.cells memory.old).writable }
         ensures steps { self.new.steps ≡ self.old.steps }
     {
         if self.latches.green != self.latches.blue {
@@ -135,8 +135,8 @@ impl Run {
     fn step<M: Memory>(&mut self, code: &Code, memory: &mut M)
         requires going { going? self.old.end ≡ true }
         requires room { self.old.steps < 1000000000 }
-        ensures does { run_of self.new (cells memory.new) ≡ step (cells memory.old).writable (kinds code.now) (run_of self.old (cells memory.old)) }
-        ensures same { (cells memory.new).writable ≡ (cells memory.old).writable }
+        ensures does { run_of self.new (M.Memory.cells memory.new) ≡ step (M.Memory.cells memory.old).writable (kinds code.now) (run_of self.old (M.Memory.cells memory.old)) }
+        ensures same { (M.Memory.cells memory.new).writable ≡ (M.Memory.cells memory.old).writable }
         ensures count { self.new.steps ≡ self.old.steps + 1 }
     {
         self.steps += 1;
@@ -153,10 +153,10 @@ impl Run {
     // Steps until n are done or an end comes, and answers how many it took. A run takes
     // 1,000,000,000 steps at most: of those that would pass that number none is taken.
     pub fn advance<M: Memory>(&mut self, code: &Code, memory: &mut M, n: u32) -> u32
-        ensures does { run_of self.new (cells memory.new) ≡ after (cells memory.old).writable (kinds code.now) (run_of self.old (cells memory.old)) (min n (1000000000 - self.old.steps)) }
-        ensures same { (cells memory.new).writable ≡ (cells memory.old).writable }
+        ensures does { run_of self.new (M.Memory.cells memory.new) ≡ after (M.Memory.cells memory.old).writable (kinds code.now) (run_of self.old (M.Memory.cells memory.old)) (min n (1000000000 - self.old.steps)) }
+        ensures same { (M.Memory.cells memory.new).writable ≡ (M.Memory.cells memory.old).writable }
         ensures taken { self.old.steps + result ≡ self.new.steps }
-        ensures laws { Lawful (cells memory.old).writable (kinds code.now) (run_of self.old (cells memory.old)) }
+        ensures laws { Lawful (M.Memory.cells memory.old).writable (kinds code.now) (run_of self.old (M.Memory.cells memory.old)) }
     {
         let most = self.allowed(n);
         let mut taken = 0;

@@ -32,7 +32,7 @@ pub struct Shown {
 impl<M: Memory> Simulator<M> {
     // An idle simulator, with room for the largest module; without memory for that, hands the memory back.
     pub fn new(heap: Global, memory: M) -> Result<Simulator<M>, M>
-        ensures { MatchResult result (λ s. model cells s ≡ fresh (cells memory)) (λ m. m ≡ memory) }
+        ensures { MatchResult result (λ s. model M.Memory.cells s ≡ fresh (M.Memory.cells memory)) (λ m. m ≡ memory) }
     {
         match Code::new(heap) {
             Ok(code) => Ok(Simulator {
@@ -46,8 +46,8 @@ impl<M: Memory> Simulator<M> {
 
     // Loads the module of a pass, which stays good.
     pub fn load(&mut self, pass: &Pass) -> Result<(), Refusal>
-        ensures answer { result ≡ (loads (module_of (words_of pass.now)).code (model cells self.old)).0 }
-        ensures after { model cells self.new ≡ (loads (module_of (words_of pass.now)).code (model cells self.old)).1 }
+        ensures answer { result ≡ (loads (module_of (words_of pass.now)).code (model M.Memory.cells self.old)).0 }
+        ensures after { model M.Memory.cells self.new ≡ (loads (module_of (words_of pass.now)).code (model M.Memory.cells self.old)).1 }
     {
         let None = self.run else {
             return Err(Refusal::NotIdle);
@@ -59,7 +59,7 @@ impl<M: Memory> Simulator<M> {
 
     // End, steps and store count.
     pub fn show(&self) -> Shown
-        ensures { result ≡ shows (model cells self.now) }
+        ensures { result ≡ shows (model M.Memory.cells self.now) }
     {
         match &self.run {
             Some(run) => Shown {
@@ -77,8 +77,8 @@ impl<M: Memory> Simulator<M> {
 
     // Steps until n are done or an end comes; answers the steps taken together with the end.
     pub fn run(&mut self, n: u32) -> Result<(u32, End), Refusal>
-        ensures answer { result ≡ (runs n (model cells self.old)).0 }
-        ensures after { model cells self.new ≡ (runs n (model cells self.old)).1 }
+        ensures answer { result ≡ (runs n (model M.Memory.cells self.old)).0 }
+        ensures after { model M.Memory.cells self.new ≡ (runs n (model M.Memory.cells self.old)).1 }
     {
         let Some(mut run) = self.run else {
             return Err(Refusal::NotUnderWay);
@@ -99,8 +99,8 @@ impl<M: Memory> Simulator<M> {
 
     // Sets one latch, and answers how many of its bits changed.
     pub fn strike(&mut self, place: u32, value: u32) -> Result<u32, Refusal>
-        ensures answer { result ≡ (strikes place value (model cells self.old)).0 }
-        ensures after { model cells self.new ≡ (strikes place value (model cells self.old)).1 }
+        ensures answer { result ≡ (strikes place value (model M.Memory.cells self.old)).0 }
+        ensures after { model M.Memory.cells self.new ≡ (strikes place value (model M.Memory.cells self.old)).1 }
     {
         let Some(mut run) = self.run else {
             return Err(Refusal::NotUnderWay);
@@ -121,8 +121,8 @@ impl<M: Memory> Simulator<M> {
 
     // Stores a word in a cell, before a load.
     pub fn put(&mut self, address: u32, word: u32) -> Result<(), Refusal>
-        ensures answer { result ≡ (puts address word (model cells self.old)).0 }
-        ensures after { model cells self.new ≡ (puts address word (model cells self.old)).1 }
+        ensures answer { result ≡ (puts address word (model M.Memory.cells self.old)).0 }
+        ensures after { model M.Memory.cells self.new ≡ (puts address word (model M.Memory.cells self.old)).1 }
     {
         let None = self.run else {
             return Err(Refusal::NotIdle);
@@ -135,15 +135,15 @@ impl<M: Memory> Simulator<M> {
 
     // The word at an address; a memory may cache while it is read, but its meaning stays.
     pub fn look(&mut self, address: u32) -> u32
-        ensures answer { result ≡ looks address (model cells self.old) }
-        ensures after { model cells self.new ≡ model cells self.old }
+        ensures answer { result ≡ looks address (model M.Memory.cells self.old) }
+        ensures after { model M.Memory.cells self.new ≡ model M.Memory.cells self.old }
     {
         self.memory.load(address)
     }
 
     // One latch, under way or ended.
     pub fn probe(&self, place: u32) -> Result<u32, Refusal>
-        ensures { result ≡ probes place (model cells self.now) }
+        ensures { result ≡ probes place (model M.Memory.cells self.now) }
     {
         let Some(run) = self.run else {
             return Err(Refusal::NotUnderWay);
@@ -156,8 +156,8 @@ impl<M: Memory> Simulator<M> {
 
     // Drops what is loaded.
     pub fn clear(&mut self) -> Result<(), Refusal>
-        ensures answer { result ≡ (clears (model cells self.old)).0 }
-        ensures after { model cells self.new ≡ (clears (model cells self.old)).1 }
+        ensures answer { result ≡ (clears (model M.Memory.cells self.old)).0 }
+        ensures after { model M.Memory.cells self.new ≡ (clears (model M.Memory.cells self.old)).1 }
     {
         let Some(_) = self.run else {
             return Err(Refusal::NotUnderWay);

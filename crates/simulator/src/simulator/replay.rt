@@ -18,8 +18,8 @@ impl<M: Memory> Simulator<M> {
     fn load_words(&mut self, checker: &mut Checker, words: &[u32]) -> Answer
         ensures sized { AreWords words.now }
         ensures judged { Judged words.now (verdict result) }
-        ensures answer { result ≡ (load_words (verdict result) words.now (model cells self.old)).0 }
-        ensures after { model cells self.new ≡ (load_words (verdict result) words.now (model cells self.old)).1 }
+        ensures answer { result ≡ (load_words (verdict result) words.now (model M.Memory.cells self.old)).0 }
+        ensures after { model M.Memory.cells self.new ≡ (load_words (verdict result) words.now (model M.Memory.cells self.old)).1 }
     {
         let _ = are_words(words);
         let mut pass = Pass::new();
@@ -34,7 +34,7 @@ impl<M: Memory> Simulator<M> {
 
     // Makes one call.
     fn apply(&mut self, checker: &mut Checker, call: &Call) -> Answer
-        ensures { Responds call.now (model cells self.old) result (model cells self.new) }
+        ensures { Responds call.now (model M.Memory.cells self.old) result (model M.Memory.cells self.new) }
     {
         match call {
             Call::Load(words) => self.load_words(checker, words),
@@ -75,8 +75,8 @@ impl<M: Memory> Simulator<M> {
         checker: &mut Checker,
         calls: &[Call],
     ) -> Result<Vec<Answer>, AllocError>
-        ensures reached { MatchResult result (λ v. Replays (model cells self.old) calls.now v.items (model cells self.new)) (λ _. model cells self.new ≡ model cells self.old) }
-        ensures found { IfOk result (λ v. FoundAfter (model cells self.old) calls.now v.items (model cells self.new)) }
+        ensures reached { MatchResult result (λ v. Replays (model M.Memory.cells self.old) calls.now v.items (model M.Memory.cells self.new)) (λ _. model M.Memory.cells self.new ≡ model M.Memory.cells self.old) }
+        ensures found { IfOk result (λ v. FoundAfter (model M.Memory.cells self.old) calls.now v.items (model M.Memory.cells self.new)) }
     {
         let mut answers = Vec::with_capacity(heap, calls.len())?;
         for call in calls {

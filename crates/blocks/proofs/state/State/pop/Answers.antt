@@ -16,7 +16,7 @@ invariant_of-self c =
     let s = c.args.self.now in
     let p = c.remove.ensures in
     let cap : 16 ≤ vec_capacity c.remove.new.self = search rules in
-    (cap, (s.noted, (subst (PairsBelow (count s)) (sym p.items) (pairs_below_rest (count s) (vec_items s.pending) s.queued), (s.bound, tt))))
+    record { room = cap; noted = s.noted; queued = subst (PairsBelow (count s)) (sym p.items) (pairs_below_rest (count s) (vec_items s.pending) s.queued); bound = s.bound }
 
 pub returns : goal.returns
 returns c =

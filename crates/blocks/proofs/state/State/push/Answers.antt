@@ -27,7 +27,7 @@ invariant_of-self c =
     let s = c.args.self.now in
     let p = c.push_reserved.ensures in
     let cap : 16 ≤ vec_capacity c.push_reserved.new.self = search rules in
-    (cap, (s.noted, (subst (PairsBelow (count s)) (sym p.items) (pairs_below_push (count s) (vec_items s.pending) _ s.queued (search rules)), (s.bound, tt))))
+    record { room = cap; noted = s.noted; queued = subst (PairsBelow (count s)) (sym p.items) (pairs_below_push (count s) (vec_items s.pending) _ s.queued (search rules)); bound = s.bound }
 
 pub returns : goal.returns
 returns c =

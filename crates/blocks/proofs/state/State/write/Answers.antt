@@ -9,7 +9,7 @@ pub invariant_of-self : goal.invariant_of-self
 invariant_of-self c =
     let s = c.args.self.now in
     let low : c.args.a.number < length (vec_items s.notes.all) = search rules in
-    (s.room, (below_write _ (vec_items s.notes.all) c.args.a.number _ low s.noted c.requires.entry, (s.queued, (s.bound, tt))))
+    record { room = s.room; noted = below_write _ (vec_items s.notes.all) c.args.a.number _ low s.noted c.requires.entry; queued = s.queued; bound = s.bound }
 
 pub returns : goal.returns
 returns c =

@@ -7,4 +7,4 @@ pub invariant_of-self : goal.invariant_of-self
 invariant_of-self c =
     let e = c.clear.ensures.items in
     let cap : room ≤ vec_capacity c.clear.new.self = search rules in
-    (cap, (empty_closed _ e, (empty_once _ e, tt)))
+    record { room = cap; closed = empty_closed _ e; once = empty_once _ e }

@@ -14,7 +14,7 @@ invariant_of-self c =
     let p = c.push_reserved.ensures in
     let P : List Node → Type 0 = λ l. Once (trees l) in
     let cap : room ≤ vec_capacity c.push_reserved.new.self = search rules in
-    (cap, (subst Closed (sym p.items) (push_closed ns n t.closed low), (subst P (sym p.items) (push_once ns n t.closed low t.once c.in-None.ensures), tt)))
+    record { room = cap; closed = subst Closed (sym p.items) (push_closed ns n t.closed low); once = subst P (sym p.items) (push_once ns n t.closed low t.once c.in-None.ensures) }
 
 pub returns-in-Some : goal.returns-in-Some
 returns-in-Some c =

@@ -11,4 +11,4 @@ invariant_of-self c =
     let q = c.push_reserved.ensures in
     let low : reach c.args.node ≤ length ns = omega (arith, c.requires.children, p.nodes.ok.0) in
     let closed = subst Closed (sym q.items) (each_push (Number 0) reach (λ k. k) ns c.args.node p.closed low) in
-    ((omega (arith, p.room.0, q.capacity), p.room.1), ((omega (arith, c.requires.room, q.len), p.few.1), (closed, ((λ k h. omega (arith, p.rooted k h, q.len)), (p.owned, (p.looped, tt))))))
+    record { room = (omega (arith, p.room.0, q.capacity), p.room.1); few = (omega (arith, c.requires.room, q.len), p.few.1); closed = closed; rooted = (λ k h. omega (arith, p.rooted k h, q.len)); owned = p.owned; looped = p.looped }

@@ -23,4 +23,4 @@ invariant_of-self c =
     let rooted = subst (Rooted (vec_len p.nodes)) (sym q.items) (each_push (End 0) roots (λ k. vec_len p.nodes) ss s p.rooted c.requires.roots) in
     let owned = ap (λ n. n + c.own.result) p.owned ∙ ap (λ n. total own ss + n) c.own.ensures ∙ sym (total-push own ss s) ∙ ap (total own) (sym q.items) in
     let looped = ap (λ n. n + c.loops.result) p.looped ∙ ap (λ n. total loop ss + n) c.loops.ensures ∙ sym (total-push loop ss s) ∙ ap (total loop) (sym q.items) in
-    ((p.room.0, omega (arith, p.room.1, q.capacity)), ((p.few.0, omega (arith, c.requires.room, q.len)), (p.closed, (rooted, (owned, (looped, tt))))))
+    record { room = (p.room.0, omega (arith, p.room.1, q.capacity)); few = (p.few.0, omega (arith, c.requires.room, q.len)); closed = p.closed; rooted = rooted; owned = owned; looped = looped }

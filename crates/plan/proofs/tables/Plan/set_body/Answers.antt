@@ -16,4 +16,4 @@ invariant_of-self c =
     let same-own = ap own c.with_body.ensures ∙ with_body_own _ n ∙ ap own old in
     let same-loop = ap loop c.with_body.ensures ∙ with_body_loop _ n ∙ ap loop old in
     let same-roots = ap roots c.with_body.ensures ∙ with_body_roots _ n ∙ ap roots old in
-    (p.room, (p.few, (p.closed, (each_set (End 0) roots (λ k. vec_len p.nodes) ss i s p.rooted (omega (arith, same-roots)), (p.owned ∙ sym (total-set own ss i s same-own), (p.looped ∙ sym (total-set loop ss i s same-loop), tt))))))
+    record { room = p.room; few = p.few; closed = p.closed; rooted = each_set (End 0) roots (λ k. vec_len p.nodes) ss i s p.rooted (omega (arith, same-roots)); owned = p.owned ∙ sym (total-set own ss i s same-own); looped = p.looped ∙ sym (total-set loop ss i s same-loop) }
