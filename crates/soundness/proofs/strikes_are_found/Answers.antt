@@ -4,4 +4,4 @@ use Rattle.soundness.proofs.Finding.{finding}
 use Rattle.soundness.proofs.strikes_are_found.Goals as goal
 
 pub returns : goal.returns
-returns c = record { limit = c.queue-limit.ensures; found = subst⁻¹ Finding c.queue-limit.ensures finding }
+returns c = record { limit = c.queue_limit.ensures; found = subst⁻¹ Finding c.queue_limit.ensures finding }

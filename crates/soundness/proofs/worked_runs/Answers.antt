@@ -4,4 +4,4 @@ use Rattle.soundness.proofs.Worked.{worked}
 use Rattle.soundness.proofs.worked_runs.Goals as goal
 
 pub returns : goal.returns
-returns c = subst⁻¹ WorkedRuns c.steps-taken.ensures worked
+returns c = subst⁻¹ WorkedRuns c.steps_taken.ensures worked

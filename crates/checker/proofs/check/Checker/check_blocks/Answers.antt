@@ -18,8 +18,8 @@ code-requires c =
     let l = lies ws c.requires.laid c.loop-b.b _ _ low c.edge-from.ensures c.edge-to.ensures in
     record { order = omega arith; within = l.within }
 
-pub check-part-requires : goal.check-part-requires
-check-part-requires c =
+pub check_part-requires : goal.check_part-requires
+check_part-requires c =
     let ws = c.args.words.now in
     let low : c.loop-b.b < word ws 1 = omega arith in
     let l = lies ws c.requires.laid c.loop-b.b _ _ low c.edge-from.ensures c.edge-to.ensures in
@@ -33,8 +33,8 @@ loop-b-preserved c =
     let ws = c.args.words.now in
     let low : c.loop-b.b < word ws 1 = omega arith in (
       next_kept in_force ws c.requires.laid c.loop-b.b _ _ c.code.result.now (vec_items c.loop-b.self.blocks) low c.edge-from.ensures c.edge-to.ensures c.code.ensures
-          c.loop-b.invariant.1 c.loop-b.invariant.0 c.in-default.ensures.answer,
-      ap vec_items c.check-part.ensures.blocks ∙ c.loop-b.invariant.1,
+          c.loop-b.invariant.1 c.loop-b.invariant.0 c.in_default.ensures.answer,
+      ap vec_items c.check_part.ensures.blocks ∙ c.loop-b.invariant.1,
     )
 
 pub broken-requires : goal.broken-requires

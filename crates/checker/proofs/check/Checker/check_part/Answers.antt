@@ -11,8 +11,8 @@ returns c =
     let bs = vec_items c.args.self.now.blocks in
     let v = c.args.self.now.blocks.ok.0 in
     let low : c.args.b < length bs = omega arith in
-    let P : List ℕ → Type 0 = λ ws. BlockJudged in_force bs (behind bs (c.args.b + 1)) (card_at bs c.args.b) (kinds_of ws) c.check-block.result in
+    let P : List ℕ → Type 0 = λ ws. BlockJudged in_force bs (behind bs (c.args.b + 1)) (card_at bs c.args.b) (kinds_of ws) c.check_block.result in
     record {
-      answer = subst P (take_all 2048 c.args.part.now c.requires.few) (judged_read in_force bs _ _ c.args.b _ _ _ c.as-slice.ensures.value low c.index.ensures c.check-block.ensures);
+      answer = subst P (take_all 2048 c.args.part.now c.requires.few) (judged_read in_force bs _ _ c.args.b _ _ _ c.as_slice.ensures.value low c.index.ensures c.check_block.ensures);
       blocks = search rules;
     }

@@ -7,8 +7,8 @@ use Rattle.rules.proofs.Layouts.{few}
 use Rattle.rules.proofs.Parts.{read_block}
 use Rattle.checker.proofs.check.Checker.read_blocks.Goals as goal
 
-pub push-reserved-requires : goal.push-reserved-requires
-push-reserved-requires c =
+pub push_reserved-requires : goal.push_reserved-requires
+push_reserved-requires c =
     let ws = c.args.words.now in
     let f = few ws c.requires.laid.code in
     let l = ap length c.loop-b.invariant ∙ length-map-range_with_len (block_of ws (word ws 0)) 0 c.loop-b.b in
@@ -21,9 +21,9 @@ loop-b-preserved c =
     let ws = c.args.words.now in
     let i = c.loop-b.b in
     let low : i < word ws 1 = omega arith in
-    let b = read_block ws c.requires.laid.blocks c.args.shape.instructions i c.block-at.result c.requires.instructions low c.block-at.ensures.start c.block-at.ensures.card in
-    c.push-reserved.ensures.items
-    ∙ ap (λ l. l ++ (c.block-at.result ∷ [])) c.loop-b.invariant
+    let b = read_block ws c.requires.laid.blocks c.args.shape.instructions i c.block_at.result c.requires.instructions low c.block_at.ensures.start c.block_at.ensures.card in
+    c.push_reserved.ensures.items
+    ∙ ap (λ l. l ++ (c.block_at.result ∷ [])) c.loop-b.invariant
     ∙ ap (λ x. map (block_of ws (word ws 0)) (range_with_len 0 i) ++ (x ∷ [])) b
     ∙ sym (map-range_with_len_more (block_of ws (word ws 0)) 0 i i (omega arith))
 

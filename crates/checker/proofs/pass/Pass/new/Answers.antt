@@ -4,5 +4,5 @@ use Rattle.rules.specs.Words.{Passes}
 use Rattle.checker.proofs.Halting.{halt_passes}
 use Rattle.checker.proofs.pass.Pass.new.Goals as goal
 
-pub invariant-of-result : goal.invariant-of-result
-invariant-of-result c = (subst (Passes in_force) (sym c.halt.ensures) halt_passes, tt)
+pub invariant_of-result : goal.invariant_of-result
+invariant_of-result c = (subst (Passes in_force) (sym c.halt.ensures) halt_passes, tt)
