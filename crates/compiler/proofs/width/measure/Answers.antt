@@ -10,4 +10,4 @@ width-w-requires c =
     let i = c.loop-i.i in
     let low = c.loop-i-test.true in
     let e = ap reach (c.index-nodes-i.is ∙ get_or_default c.args.nodes.now i c.index-nodes-i.result (Number 0) low) in
-    omega (arith, e, c.requires.closed i low, c.loop-i.invariant.0, c.as-slice.ensures.len)
+    omega (arith, e, c.requires.closed i low, c.loop-i.invariant.0, c.as_slice.ensures.len)

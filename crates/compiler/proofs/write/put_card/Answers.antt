@@ -13,6 +13,6 @@ loop-k-preserved c =
     let k = c.loop-k.k in
     let f = words c.args.out.now in (
       search rules,
-      c.put.ensures.words ∙ ap (λ g. replaced g (at + k) c.card-word.result) c.loop-k.invariant.1
-          ∙ ap (λ w. replaced (carded f at c.args.twins k) (at + k) w) c.card-word.ensures ∙ carded-more f at c.args.twins k,
+      c.put.ensures.words ∙ ap (λ g. replaced g (at + k) c.card_word.result) c.loop-k.invariant.1
+          ∙ ap (λ w. replaced (carded f at c.args.twins k) (at + k) w) c.card_word.ensures ∙ carded-more f at c.args.twins k,
     )

@@ -10,8 +10,8 @@ use Rattle.compiler.proofs.write.put_code.Goals as goal
 pub loop-i-init : goal.loop-i-init
 loop-i-init c = (refl, record { code_left = refl; code = λ k h. absurd (omega arith); blocks_left = refl; blocks = λ k h. absurd (omega arith); kept = λ j h. refl; low = omega arith; few = omega arith; long = omega arith })
 
-pub put-line-blocks-requires : goal.put-line-blocks-requires
-put-line-blocks-requires c =
+pub put_line-blocks-requires : goal.put_line-blocks-requires
+put_line-blocks-requires c =
     let ls = c.args.lines.now in
     let x = c.args.behind in
     let i = c.loop-i.i in
@@ -45,13 +45,13 @@ loop-i-preserved c =
     let rest = code_of (drop (i + 1) ls) x in
     let P : Code → Type 0 = λ y. Stage n D BS missing old f (2 * i) b (doubled y) (blocks_from i y) in
     let S = subst P (code_at ls x i l c.loop-i-test.true c.index-lines-i.is) c.loop-i.invariant.1 in
-    let T = lay_line n D BS missing old f i b l rest (omega (arith, c.loop-i-test.true)) c.put-line-blocks.ensures.green c.put-line-blocks.ensures.blue S in
+    let T = lay_line n D BS missing old f i b l rest (omega (arith, c.loop-i-test.true)) c.put_line-blocks.ensures.green c.put_line-blocks.ensures.blue S in
     let Q : ℕ → Type 0 = λ y. Stage n D BS missing old (lined f n b i l) (2 * (i + 1)) y (doubled rest) (blocks_from (i + 1) rest) in
-    let R : (ℕ → ℕ) → Type 0 = λ g. Stage n D BS missing old g (2 * (i + 1)) c.put-line-blocks.result (doubled rest) (blocks_from (i + 1) rest) in
-    (c.put-line-blocks.ensures.len ∙ c.loop-i.invariant.0, subst R (sym c.put-line-blocks.ensures.words) (subst Q (sym c.put-line-blocks.ensures.count) T))
+    let R : (ℕ → ℕ) → Type 0 = λ g. Stage n D BS missing old g (2 * (i + 1)) c.put_line-blocks.result (doubled rest) (blocks_from (i + 1) rest) in
+    (c.put_line-blocks.ensures.len ∙ c.loop-i.invariant.0, subst R (sym c.put_line-blocks.ensures.words) (subst Q (sym c.put_line-blocks.ensures.count) T))
 
-pub put-entry-count-requires : goal.put-entry-count-requires
-put-entry-count-requires c =
+pub put_entry-count-requires : goal.put_entry-count-requires
+put_entry-count-requires c =
     let ls = c.args.lines.now in
     let x = c.args.behind in
     let i = c.loop-i.i in
@@ -86,12 +86,12 @@ returns c =
     let P : Code → Type 0 = λ y. Stage n D BS missing old f (2 * i) b (doubled y) (blocks_from i y) in
     let S = subst P (code-end ls x i c.loop-i-test.false) c.loop-i.invariant.1 in
     let T = lay_end n D BS missing old f i b x (omega arith) S in
-    let w : words c.put-instruction.new.out ≡ placed (entered f n b (2 * i) x) (2 * i) Halt =
-    c.put-instruction.ensures.words ∙ ap (λ g. placed g q Halt) c.put-entry-count.ensures.words ∙ ap (λ p. placed (entered f n b p x) p Halt) e in
+    let w : words c.put_instruction.new.out ≡ placed (entered f n b (2 * i) x) (2 * i) Halt =
+    c.put_instruction.ensures.words ∙ ap (λ g. placed g q Halt) c.put_entry-count.ensures.words ∙ ap (λ p. placed (entered f n b p x) p Halt) e in
     let Q : ℕ → Type 0 = λ p. Stage n D BS missing old (placed (entered f n b (2 * i) x) (2 * i) Halt) p (b + opens x) [] [] in
     let R : ℕ → Type 0 = λ y. Stage n D BS missing old (placed (entered f n b (2 * i) x) (2 * i) Halt) n y [] [] in
-    let U : (ℕ → ℕ) → Type 0 = λ g. Stage n D BS missing old g n c.put-entry-count.result [] [] in
+    let U : (ℕ → ℕ) → Type 0 = λ g. Stage n D BS missing old g n c.put_entry-count.result [] [] in
     record {
-      len = c.put-instruction.ensures.len ∙ c.put-entry-count.ensures.len ∙ c.loop-i.invariant.0;
-      stage = subst U (sym w) (subst R (sym c.put-entry-count.ensures.count) (subst Q m T));
+      len = c.put_instruction.ensures.len ∙ c.put_entry-count.ensures.len ∙ c.loop-i.invariant.0;
+      stage = subst U (sym w) (subst R (sym c.put_entry-count.ensures.count) (subst Q m T));
     }

@@ -9,15 +9,15 @@ use Rattle.compiler.proofs.write.write_module.Goals as goal
 pub returns : goal.returns
 returns c =
     let n : ℕ = 2 * length c.args.lines.now + 1 in
-    let m = c.put-code-blocks.result in
+    let m = c.put_code-blocks.result in
     let M = build (code_of c.args.lines.now c.args.behind) in
     let old = words c.args.out.now in
-    let f = words c.put-code-blocks.new.out in
+    let f = words c.put_code-blocks.new.out in
     let ws = c.put-2.new.out in
-    let S = c.put-code-blocks.ensures.stage in
+    let S = c.put_code-blocks.ensures.stage in
     let e : words ws ≡ replaced (replaced f 0 n) 1 m = c.put-2.ensures.words ∙ ap (λ g. replaced g 1 m) c.put.ensures.words in
     record {
-      len = c.put-2.ensures.len ∙ c.put.ensures.len ∙ c.put-code-blocks.ensures.len;
+      len = c.put-2.ensures.len ∙ c.put.ensures.len ∙ c.put_code-blocks.ensures.len;
       count = ap (λ k. 2 + 2 * n + 9 * k) (blocks_length n m M old f ws S e);
       reads = module_is n m M old f ws S e;
       rest = rest_is n m M old f ws S e;

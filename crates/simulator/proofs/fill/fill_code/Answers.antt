@@ -14,10 +14,10 @@ loop-place-preserved c =
     let f = kind_at c.args.words.now in
     let l = kinds c.loop-place.code in
     let inv = c.loop-place.invariant in
-    let k = c.instruction-at.result.kind in
-    let low : length l < 1024 = omega (arith, ap length inv ∙ length-map-range_with_len f 0 p, c.loop-place-test.true, c.requires, c.instruction-count-place-end.ensures) in
+    let k = c.instruction_at.result.kind in
+    let low : length l < 1024 = omega (arith, ap length inv ∙ length-map-range_with_len f 0 p, c.loop-place-test.true, c.requires, c.instruction_count-place-end.ensures) in
     c.push.ensures.after
     ∙ ap (λ b. cond b (l ++ (k ∷ [])) l) (c.push.ensures.room ∙ lt-ltb (length l) 1024 low)
     ∙ ap (λ (x : List Kind). x ++ (k ∷ [])) inv
-    ∙ ap (λ (x : Kind). map f (range_with_len 0 p) ++ (x ∷ [])) c.instruction-at.ensures
+    ∙ ap (λ (x : Kind). map f (range_with_len 0 p) ++ (x ∷ [])) c.instruction_at.ensures
     ∙ sym (map-range_with_len_more f 0 p p (omega arith))

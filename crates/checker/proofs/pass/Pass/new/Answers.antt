@@ -5,4 +5,4 @@ use Rattle.checker.proofs.Halting.{halt_passes}
 use Rattle.checker.proofs.pass.Pass.new.Goals as goal
 
 pub invariant_of-result : goal.invariant_of-result
-invariant_of-result c = (subst (Passes in_force) (sym c.halt.ensures) halt_passes, tt)
+invariant_of-result c = record { passed = subst (Passes in_force) (sym c.halt.ensures) halt_passes }

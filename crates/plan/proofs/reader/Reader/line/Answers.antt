@@ -13,7 +13,7 @@ end_line-requires c =
     record {
       spare = spare_behind a c.skip-in-End.new.self a c.args.mark c.requires.seen q.rest q.plan c.requires.rooms;
       entry = omega (arith, x.0, ap (λ p. vec_len p.statements) q.plan);
-      goal = omega (arith, x.1, ap spent q.plan);
+      need = omega (arith, x.1, ap spent q.plan);
     }
 
 pub returns-in-Let : goal.returns-in-Let
@@ -48,14 +48,14 @@ returns-in-Put c =
       slots = c.requires.slots;
     }
 
-pub returns-in-ok-repeat : goal.returns-in-ok-repeat
-returns-in-ok-repeat c =
+pub returns-in_ok-repeat-in-Repeat : goal.returns-in_ok-repeat-in-Repeat
+returns-in_ok-repeat-in-Repeat c =
     let a = c.args.self.now in
     let q = c.skip-in-Repeat.ensures in
     let b = c.skip-in-Repeat.new.self in
     let z = c.repeat_line.new.self in
-    let r = c.in-ok-repeat.ensures in
-    let x = c.in-ok-repeat.repeat in
+    let r = c.in_ok-repeat-in-Repeat.ensures in
+    let x = c.in_ok-repeat-in-Repeat.repeat in
     let o = onward_behind a b z c.args.mark c.requires.seen q.rest q.plan q.marks r.onward in
     record {
       depth = r.depth;
@@ -65,18 +65,18 @@ returns-in-ok-repeat c =
       slots = c.push.ensures.room ∙ c.requires.slots;
     }
 
-pub returns-in-err-repeat : goal.returns-in-err-repeat
-returns-in-err-repeat c =
+pub returns-in_err-repeat-in-Repeat : goal.returns-in_err-repeat-in-Repeat
+returns-in_err-repeat-in-Repeat c =
     let a = c.args.self.now in
     let q = c.skip-in-Repeat.ensures in
     let b = c.skip-in-Repeat.new.self in
     let z = c.repeat_line.new.self in
-    let r = c.in-err-repeat.ensures in
+    let r = c.in_err-repeat-in-Repeat.ensures in
     let o = onward_behind a b z c.args.mark c.requires.seen q.rest q.plan q.marks r.onward in
     record {
       depth = r.depth;
       onward = o;
-      less = made_all c.from-residual-in-err-repeat.result _ (less_behind a b z c.args.mark c.requires.seen q.rest q.plan r.onward);
+      less = made_all c.from_residual-in_err-repeat-in-Repeat.result _ (less_behind a b z c.args.mark c.requires.seen q.rest q.plan r.onward);
       opened = opened_more a.plan z.plan (items c.args.repeats.now) o.longer o.dearer c.requires.opened;
       slots = c.requires.slots;
     }

@@ -13,6 +13,6 @@ returns g c =
     let cells = g.M.Memory.cells s.memory in
     let ws = words_of c.args.pass.now in
     let l =
-    idle_loads (module_of ws).code (kinds s.code) (kinds c.fill-code.new.code) cells s.run c.start.result c.in-None.is
-    (c.fill-code.ensures ∙ ap (λ (x : List ℕ). map (kind_at x) (range_with_len 0 (word x 0))) c.words.ensures) (c.start.ensures cells) in
+    idle_loads (module_of ws).code (kinds s.code) (kinds c.fill_code.new.code) cells s.run c.start.result c.in-None.is
+    (c.fill_code.ensures ∙ ap (λ (x : List ℕ). map (kind_at x) (range_with_len 0 (word x 0))) c.words.ensures) (c.start.ensures cells) in
     record { answer = l.answer; after = l.after }

@@ -7,7 +7,7 @@ use Rattle.simulator.proofs.simulator.Simulator.replay.Goals as goal
 
 pub loop-call-init : goal.loop-call-init
 loop-call-init g c =
-    let made = c.in-ok-answers.ensures in
+    let made = c.in_ok-answers.ensures in
     (replays_along refl refl (sym made.items) none, made.len, made.capacity)
 
 pub loop-call-preserved : goal.loop-call-preserved
@@ -15,7 +15,7 @@ loop-call-preserved g c =
     let calls = c.args.calls.now in
     let i = c.loop-call.call-index in
     let inv = c.loop-call.invariant in
-    let pushed = c.push-reserved.ensures in
+    let pushed = c.push_reserved.ensures in
     let longer = take_more calls i _ c.loop-call-test.true in
     (replays_along refl (sym longer) (sym pushed.items) (replays_more inv.0 c.apply-answer.ensures), omega (arith, pushed.len, inv.1), omega (arith, pushed.capacity, inv.2))
 
