@@ -11,7 +11,7 @@ use machine::queue::{Pair, Queue};
 // The latch at a place, if there is one.
 pub(crate) fn read(latches: &Latches, place: Place) -> Option<u32>
     requires { Low place }
-    ensures { (M.Memory.cells : ℕ → ℕ) (stores : ℕ) → result ≡ latch place (latched latches.now M.Memory.cells stores) }
+    ensures { (cells : ℕ → ℕ) (stores : ℕ) → result ≡ latch place (latched latches.now cells stores) }
 {
     match place {
         Place::Register(r) => Some(latches.registers[r as usize]),
@@ -32,7 +32,7 @@ pub(crate) fn read(latches: &Latches, place: Place) -> Option<u32>
 // Sets the latch at a place; where no such pair is queued, nothing changes.
 pub(crate) fn write(latches: &mut Latches, place: Place, value: u32)
     requires { Low place }
-    ensures { (M.Memory.cells : ℕ → ℕ) (stores : ℕ) → latched latches.new M.Memory.cells stores ≡ struck place value (latched latches.old M.Memory.cells stores) }
+    ensures { (cells : ℕ → ℕ) (stores : ℕ) → latched latches.new cells stores ≡ struck place value (latched latches.old cells stores) }
 {
     match place {
         Place::Register(r) => latches.registers[r as usize] = value,
