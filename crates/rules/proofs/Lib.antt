@@ -6,3 +6,5 @@ pub mod Starts
 pub mod Layouts
 pub mod Parts
 pub mod Meets
+pub mod Relations
+pub mod Copies

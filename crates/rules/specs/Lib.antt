@@ -8,3 +8,4 @@ pub mod Module
 pub mod Part
 pub mod Words
 pub mod Met
+pub mod Copies
