@@ -14,7 +14,7 @@ use Rattle.rules.specs.Limits.{Limits}
 use Rattle.rules.specs.Expressions.{load}
 use Rattle.rules.specs.Notes.{Colour, green, blue, Register, Kind, mov, cpy, arith, ld, st, jmp, bz, halt, upd, Note, nothing, note, Notes, Static, note_of, expr_of, combine, next}
 use Rattle.rules.specs.Module.{Module, size, instr, static}
-use Rattle.soundness.proofs.Rules.{Coloured, Rule}
+use Rattle.rules.proofs.Relations.{Coloured, Rule}
 use Rattle.soundness.proofs.Outcomes.{Quiet, Follow, follow_need, follow_cond}
 
 -- cells, stores and all that colour t holds are the same in both

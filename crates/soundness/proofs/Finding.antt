@@ -18,7 +18,7 @@ use Rattle.rules.specs.Module.{Module, size, instr, static}
 use Rattle.rules.specs.Words.{module_of}
 use Rattle.soundness.specs.Strikes.{Place, struck_at, Strike, Reached, begun, stepped, struck}
 use Rattle.soundness.specs.Finding.{stores, IsReport, Undisturbed, Caught, Found, strike_colour, Of, AllOf, AreCells, Outcomes, Finding}
-use Rattle.soundness.proofs.Rules.{rule_is}
+use Rattle.rules.proofs.Relations.{rule_is}
 use Rattle.soundness.proofs.Passed.{Passed, passes_passed}
 use Rattle.soundness.proofs.Outcomes.{Goes, Fine, fine-quiet, Follow}
 use Rattle.soundness.proofs.Words.{Words, reached_words}

@@ -1,4 +1,3 @@
-pub mod Rules
 pub mod Passed
 pub mod Outcomes
 pub mod Words

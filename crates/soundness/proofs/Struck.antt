@@ -5,7 +5,7 @@ use Rattle.machine.specs.Machine.{State}
 use Rattle.rules.specs.Notes.{Colour, green, blue, Note, nothing, note, Notes}
 use Rattle.soundness.specs.Strikes.{Place, register, counter, destination, address, word, strike}
 use Rattle.soundness.specs.Finding.{note_colour, place_colour, Of}
-use Rattle.soundness.proofs.Rules.{Coloured, Sub}
+use Rattle.rules.proofs.Relations.{Coloured, Sub}
 use Rattle.soundness.proofs.Agree.{Agree, green≢blue}
 
 abbrev pub other : Colour → Colour

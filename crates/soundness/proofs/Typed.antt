@@ -16,7 +16,7 @@ use Rattle.rules.specs.Cards.{Slot, free, slot, Card, card_note, fresh, Entry, i
 use Rattle.rules.specs.Module.{Module, size, instr, enter, static}
 use Rattle.soundness.specs.Strikes.{Word}
 use Rattle.soundness.proofs.Passed.{Passed}
-use Rattle.soundness.proofs.Rules.{Coloured, Sub, Oldest, Has, HasNumber, Meets, Met, Enters, Arrives, Passable, Falls, Rule, rule_is}
+use Rattle.rules.proofs.Relations.{Coloured, Sub, Oldest, Has, HasNumber, Meets, Met, Enters, Arrives, Passable, Falls, Rule, rule_is}
 use Rattle.soundness.proofs.Outcomes.{Fine, fine-need, fine-cond}
 use Rattle.soundness.proofs.Words.{Words, overlay-word, seen}
 use Rattle.soundness.proofs.Values.{Context, val, num_val, var_val, load_val, same_val, is_val, mk_val, Upto, upto_same, Holds, NoteHolds, Matched, Chain, DestHolds, Means, upd_same, upd_other, chain_end, chain_head, chain_le, chain_push, chain_pop, note_more, matched_push, dest_more, matched_length, matched_none, Popped, matched_pop}

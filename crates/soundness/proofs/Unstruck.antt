@@ -9,7 +9,7 @@ use Rattle.rules.specs.Limits.{Limits}
 use Rattle.rules.specs.Notes.{Kind, Notes, next}
 use Rattle.rules.specs.Module.{Module, instr, static}
 use Rattle.soundness.specs.Finding.{unstruck, Lasts, IsReport, AreCells}
-use Rattle.soundness.proofs.Rules.{Sub}
+use Rattle.rules.proofs.Relations.{Sub}
 use Rattle.soundness.proofs.Passed.{Passed}
 use Rattle.soundness.proofs.Outcomes.{Goes, Fine}
 use Rattle.soundness.proofs.Words.{Words, act-words, begin-words}

@@ -10,7 +10,7 @@ use Rattle.rules.specs.Expressions.{Arithmetic, Expr, num, var, op, load, Numera
 use Rattle.rules.specs.Notes.{upd, Note, nothing, note, Dest, clear, jump, branch, Pending, Static}
 use Rattle.rules.proofs.Sameness.{same_eq}
 use Rattle.soundness.specs.Strikes.{Word}
-use Rattle.soundness.proofs.Rules.{Same}
+use Rattle.rules.proofs.Relations.{Same}
 
 -- what expressions are valued in: the word of each variable, and the cells after the first k of the block's stores
 pub record Context : Type 0 where
