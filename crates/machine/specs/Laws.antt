@@ -1,6 +1,6 @@
 -- What holds of every run, whatever its code, its latches and its cells.
 use Rattle.std.specs.Prelude.{◌≡◌, ℕ, suc, ◌+◌, Bool, true, false, List, ◌++◌, length}
-use Rattle.std.specs.List.{AllByRecursion as All}
+use Rattle.std.specs.List.{AllByRecursion}
 use Rattle.isa.specs.declared.kinds.Kind.{Kind}
 use Rattle.machine.specs.declared.queue.Pair.{Pair}
 use Rattle.machine.specs.Ends.{going?}
@@ -10,7 +10,7 @@ use Rattle.machine.specs.Machine.{State, Run, after, made}
 -- these stores, made in their order, account for all that became of the cells and of the store count from s to t
 pub record Accounts (w : ℕ → Bool) (stores : List Pair) (s t : State) : Type 0 where
   pub cells : t.cells ≡ overlay stores s.cells
-  pub writable : All (λ p. w p.address ≡ true) stores
+  pub writable : AllByRecursion (λ p. w p.address ≡ true) stores
   pub number : t.stores ≡ s.stores + length stores
 
 -- the run from x, where the cells at which w is true are writable
