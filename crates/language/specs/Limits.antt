@@ -1,5 +1,5 @@
 -- How large a plan is, and the limits.
-use Rattle.std.specs.Prelude.{ℕ, suc, ◌+◌, ◌*◌, ◌^◌, ◌<◌, ◌≤◌, max}
+use Rattle.std.specs.Prelude.{ℕ, suc, ◌+◌, ◌*◌, ◌^◌, ◌<◌, ◌≤◌, max, List, [], ◌∷◌, ◌++◌}
 use Rattle.language.specs.Plans.{Tree, number, variable, cell, node, Plan, done, assign, store, again}
 
 -- how many values are kept at once while an expression is computed
@@ -15,6 +15,13 @@ nodes (number n) = 1
 nodes (variable v) = 1
 nodes (cell e) = nodes e + 1
 nodes (node o e f) = nodes e + nodes f + 1
+
+-- the expressions of a plan's lines, in the order of the text
+abbrev pub expressions : Plan → List Tree
+expressions done = []
+expressions (assign v e P) = e ∷ expressions P
+expressions (store a e P) = a ∷ e ∷ expressions P
+expressions (again e B P) = e ∷ (expressions B ++ expressions P)
 
 -- the largest width of a plan's expressions
 abbrev pub widest : Plan → ℕ

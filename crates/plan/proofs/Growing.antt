@@ -1,10 +1,11 @@
 -- The tables of a plan, with one entry more or one replaced.
-use Rattle.std.proofs.Common.{◌≡◌, ℕ, zero, suc, ◌+◌, ◌*◌, ◌<◌, ◌≤◌, ◌≢◌, ◌⊎◌, List, [], ◌∷◌, ◌++◌, length, get_or, set, sym, refl, ap, ◌∙◌, subst, inl, inr, arith, length-append, length-set}
+use Rattle.std.proofs.Common.{◌≡◌, ℕ, zero, suc, ◌+◌, ◌*◌, ◌<◌, ◌≤◌, ◌≢◌, ◌⊎◌, List, [], ◌∷◌, ◌++◌, length, get_or, set, sym, refl, ap, subst, inl, inr, arith, length-set}
 use Rattle.std.proofs.lemmas.List.{get_or_append_left, length_push, get_or_push, get_or-set_same, get_or-set_other}
 use Rattle.std.proofs.lemmas.Bool.{cases_lt, cases_eq}
 use Rattle.plan.specs.declared.tree.Statement.{Statement}
 use Rattle.plan.specs.declared.tree.Statement.TheVariants.{Let, Put, Repeat, End}
-use Rattle.plan.specs.Tables.{roots, total, own, loop, with_body}
+use Rattle.plan.specs.Showing.{with_body}
+use Rattle.plan.specs.Tables.{roots, total, own, loop}
 
 pub own_most : (s : Statement) → own s ≤ 14
 own_most (Let v e) = omega arith

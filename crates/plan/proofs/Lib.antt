@@ -1,5 +1,12 @@
+mod Beginning
+mod Finishing
 mod Front
 mod Growing
+mod Growth
+mod Laid
+mod Laying
+mod Lines
+mod Listed
 mod Opening
-mod Scanning
-mod Spelled
+mod Parts
+mod Steps

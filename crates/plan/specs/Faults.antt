@@ -1,9 +1,8 @@
--- The number, the place and the layer of each fault that reading a text can find.
+-- The number, the place and the layer of each fault that reading a text can find. Must be believed.
 use Rattle.std.specs.Prelude.{ℕ}
 use Rattle.plan.specs.declared.fault.Layer.{Layer}
-use Rattle.plan.specs.declared.fault.Layer.TheVariants.{Marks, Reader, Builder}
-use Rattle.plan.specs.declared.fault.MarkFault.{MarkFault}
-use Rattle.plan.specs.declared.fault.MarkFault.TheVariants.{Strange}
+use Rattle.plan.specs.declared.fault.Layer.TheVariants.{Marks, Reader}
+use Rattle.marks.specs.declared.fault.MarkFault.TheVariants.{Strange}
 use Rattle.plan.specs.declared.fault.ReadFault.{ReadFault}
 use Rattle.plan.specs.declared.fault.ReadFault.TheVariants.{Mark, Grammar, Nesting}
 

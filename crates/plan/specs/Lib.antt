@@ -1,5 +1,9 @@
 pub mod Faults
-pub mod Tables
+pub mod Lining
+pub mod Listing
 pub mod Plans
 pub mod Reading
-pub mod Spelling
+pub mod Reads
+pub mod Showing
+pub mod Tables
+pub mod Trees

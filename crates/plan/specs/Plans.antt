@@ -1,4 +1,4 @@
--- What a plan needs.
+-- What a plan needs. Must be believed; `spent` serves the inner contracts too.
 use Rattle.std.specs.Prelude.{ℕ, ◌+◌, ◌*◌, vec_items, vec_len}
 use Rattle.plan.specs.declared.tables.Plan.{Plan}
 use Rattle.plan.specs.Tables.{total, own}

@@ -1,5 +1,6 @@
--- The tables of a plan: what their entries refer to.
-use Rattle.std.specs.Prelude.{ℕ, suc, ◌+◌, ◌<◌, ◌≤◌, max, List, [], ◌∷◌, length, slice_index_or}
+-- The tables of a plan: what their entries refer to and need, and where their expressions begin. Must be believed.
+use Rattle.std.specs.Prelude.{ℕ, suc, ◌+◌, ◌<◌, ◌≤◌, max, List, [], ◌∷◌, ◌++◌, map, length, slice_index_or}
+use Rattle.plan.specs.declared.tree.Expression.{Expression}
 use Rattle.plan.specs.declared.tree.Node.{Node}
 use Rattle.plan.specs.declared.tree.Node.TheVariants.{Number, Variable, Cell, Binary}
 use Rattle.plan.specs.declared.tree.Statement.{Statement}
@@ -46,9 +47,17 @@ loop (Put a e) = 0
 loop (Repeat e body) = 1
 loop (End body) = 0
 
--- a REPEAT with this body; any other statement as it is
-abbrev pub with_body : Statement → ℕ → Statement
-with_body (Let v e) n = Let v e
-with_body (Put a e) n = Put a e
-with_body (Repeat e body) n = Repeat e n
-with_body (End body) n = End body
+-- the expressions of a statement, in the order of the text
+abbrev pub parts : Statement → List Expression
+parts (Let v e) = e ∷ []
+parts (Put a e) = a ∷ e ∷ []
+parts (Repeat e body) = e ∷ []
+parts (End body) = []
+
+abbrev pub all_parts : List Statement → List Expression
+all_parts [] = []
+all_parts (s ∷ ss) = parts s ++ all_parts ss
+
+-- the bytes at which they begin
+abbrev pub places : List Statement → List ℕ
+places ss = map (λ e. e.place) (all_parts ss)

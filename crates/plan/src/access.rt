@@ -1,5 +1,5 @@
 // What may be seen of a plan.
-ghost use Rattle.std.specs.Prelude.{◌≡◌, ◌+◌, ◌≤◌};
+ghost use Rattle.std.specs.Prelude.{◌≡◌, ◌≤◌};
 ghost use Rattle.plan.specs.Plans.{spent, needed};
 
 use crate::tables::Plan;

@@ -1,10 +1,12 @@
 // Reading an expression: its parts call each other in a cycle, and each turn has fewer marks left.
-ghost use Rattle.std.specs.Prelude.{◌≡◌, ℕ, ◌+◌, ◌<◌, ◌≤◌, vec_len};
+ghost use Rattle.std.specs.Prelude.{◌≡◌, ◌<◌, ◌≤◌, vec_len};
+ghost use Rattle.language.specs.Plans.{node};
 ghost use Rattle.plan.specs.Tables.{reach};
-ghost use Rattle.plan.specs.Reading.{Room, Goes, Grew, Inside};
+ghost use Rattle.grammar.proofs.Acceptor.{bracketed};
+ghost use Rattle.plan.specs.Reading.{Room, Goes, Quiet, Grew, Inside, Counts, wrapped, tree_in, Stops, not_star, only_less, FactorSays, TermSays, SumSays, ExprSays};
+ghost use Rattle.plan.specs.Trees.{tree_of, trees};
 
 use crate::fault::ReadFault;
-use crate::limits::NESTING;
 use crate::mark::Fixed;
 use crate::nesting::{Nest, Nesting};
 use crate::reader::Reader;
@@ -17,16 +19,26 @@ impl Reader {
     fn add(&mut self, node: Node) -> NodeId
         requires room { vec_len self.old.plan.nodes < 8192 }
         requires children { reach node ≤ vec_len self.old.plan.nodes }
-        ensures { Grew self.old self.new result }
+        ensures { Grew 1 self.old self.new (tree_of (trees self.old.plan.nodes.items) node) result }
     {
         self.plan.add_node(node)
+    }
+
+    // The node of two that an operator joins.
+    fn join(&mut self, operator: Arithmetic, left: NodeId, right: NodeId) -> NodeId
+        requires room { vec_len self.old.plan.nodes < 8192 }
+        requires left { left.index < vec_len self.old.plan.nodes }
+        requires right { right.index < vec_len self.old.plan.nodes }
+        ensures { Grew 1 self.old self.new (node operator (tree_in self.old left) (tree_in self.old right)) result }
+    {
+        self.add(Node::Binary(operator, left, right))
     }
 
     // The node of what stands in a bracket: a cell's for a square one.
     fn wrap(&mut self, bracket: Bracket, inner: NodeId) -> NodeId
         requires room { vec_len self.old.plan.nodes < 8192 }
         requires inner { inner.index < vec_len self.old.plan.nodes }
-        ensures { Grew self.old self.new result }
+        ensures { Grew (wrapped bracket) self.old self.new (bracketed bracket (tree_in self.old inner)) result }
     {
         match bracket {
             Bracket::Round => inner,
@@ -40,7 +52,10 @@ impl Reader {
         requires { Room self.old }
         ensures depth { nesting.new.depth ≡ nesting.old.depth }
         ensures goes { Goes self.old self.new }
+        ensures quiet { Quiet self.old self.new }
         ensures inside { Inside result self.new }
+        ensures counts { Counts self.old self.new result }
+        ensures says { ExprSays self.old self.new nesting.old.depth result }
     {
         let left = self.sum(nesting)?;
         let Some(Arithmetic::Lt) = self.operator() else {
@@ -48,7 +63,7 @@ impl Reader {
         };
         self.skip();
         let right = self.sum(nesting)?;
-        Ok(self.add(Node::Binary(Arithmetic::Lt, left, right)))
+        Ok(self.join(Arithmetic::Lt, left, right))
     }
 
     // Terms joined by + or -, from the left.
@@ -57,19 +72,19 @@ impl Reader {
         requires { Room self.old }
         ensures depth { nesting.new.depth ≡ nesting.old.depth }
         ensures goes { Goes self.old self.new }
+        ensures quiet { Quiet self.old self.new }
         ensures inside { Inside result self.new }
+        ensures counts { Counts self.old self.new result }
+        ensures stops { Stops only_less result self.new }
+        ensures says { SumSays self.old self.new nesting.old.depth result }
     {
         let mut left = self.term(nesting)?;
-        loop {
-            let operator = match self.operator() {
-                Some(Arithmetic::Add) => Arithmetic::Add,
-                Some(Arithmetic::Sub) => Arithmetic::Sub,
-                _ => return Ok(left),
-            };
+        while let Some(operator) = self.sign() {
             self.skip();
             let right = self.term(nesting)?;
-            left = self.add(Node::Binary(operator, left, right));
+            left = self.join(operator, left, right);
         }
+        Ok(left)
     }
 
     // Factors joined by *, from the left.
@@ -78,13 +93,17 @@ impl Reader {
         requires { Room self.old }
         ensures depth { nesting.new.depth ≡ nesting.old.depth }
         ensures goes { Goes self.old self.new }
+        ensures quiet { Quiet self.old self.new }
         ensures inside { Inside result self.new }
+        ensures counts { Counts self.old self.new result }
+        ensures stops { Stops not_star result self.new }
+        ensures says { TermSays self.old self.new nesting.old.depth result }
     {
         let mut left = self.factor(nesting)?;
         while let Some(Arithmetic::Mul) = self.operator() {
             self.skip();
             let right = self.factor(nesting)?;
-            left = self.add(Node::Binary(Arithmetic::Mul, left, right));
+            left = self.join(Arithmetic::Mul, left, right);
         }
         Ok(left)
     }
@@ -95,7 +114,10 @@ impl Reader {
         requires { Room self.old }
         ensures depth { nesting.new.depth ≡ nesting.old.depth }
         ensures goes { Goes self.old self.new }
+        ensures quiet { Quiet self.old self.new }
         ensures inside { Inside result self.new }
+        ensures counts { Counts self.old self.new result }
+        ensures says { FactorSays self.old self.new nesting.old.depth result }
     {
         let Some(mark) = self.peek() else {
             return self.refuse();
@@ -110,9 +132,8 @@ impl Reader {
                 Ok(self.add(Node::Variable(variable)))
             }
             Mark::Open(bracket) => {
-                if nesting.depth >= NESTING {
-                    let place = self.place()?;
-                    return Err(ReadFault::Nesting(place));
+                if nesting.is_full() {
+                    return self.too_deep();
                 }
                 let guard = Nest::enter(nesting);
                 self.skip();

@@ -3,19 +3,14 @@ ghost use Rattle.std.specs.Prelude.{◌≡◌};
 ghost use Rattle.plan.specs.declared.fault.ReadFault.TheVariants.{Mark};
 ghost use Rattle.plan.specs.Faults.{number, place, layer};
 
+pub use marks::fault::MarkFault;
+
 // The layer of the compiler that found a fault.
 #[derive(Clone, Copy, Debug, PartialEq, Eq)]
 pub enum Layer {
     Marks,
     Reader,
     Builder,
-}
-
-// A mark is one word, number or sign of the text.
-#[derive(Clone, Copy)]
-pub enum MarkFault {
-    // What stands at this byte is no mark.
-    Strange(usize),
 }
 
 #[derive(Clone, Copy)]

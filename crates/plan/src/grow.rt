@@ -1,11 +1,14 @@
 // Filling the tables of a plan.
-ghost use Rattle.std.specs.Prelude.{◌≡◌, ◌+◌, ◌<◌, ◌≤◌, [], ◌∷◌, ◌++◌, IfOk, vec_len, vec_capacity, slice_index_or, slice_set};
-ghost use Rattle.plan.specs.declared.tree.Statement.TheVariants.{End};
-ghost use Rattle.plan.specs.Tables.{reach, roots, own as own_of, loop, with_body};
+ghost use Rattle.std.specs.Prelude.{◌≡◌, ◌+◌, ◌-◌, ◌<◌, ◌≤◌, [], ◌∷◌, ◌++◌, IfOk, vec_len, slice_index_or, slice_set};
+ghost use Rattle.plan.specs.declared.tree.Statement.TheVariants.{Repeat, End};
+ghost use Rattle.plan.specs.Plans.{spent};
+ghost use Rattle.plan.specs.Showing.{with_body};
+ghost use Rattle.plan.specs.Tables.{reach, roots, own as own_of, loop};
 
 use crate::limits::TEXT;
+use crate::repeats::OpenRepeat;
 use crate::tables::Plan;
-use crate::tree::{Node, NodeId, Statement};
+use crate::tree::{Expression, Node, NodeId, Statement};
 use std::alloc::{AllocError, Global};
 
 impl Statement {
@@ -64,6 +67,7 @@ impl Plan {
     pub(crate) fn clear(&mut self)
         ensures nodes { self.new.nodes.items ≡ [] }
         ensures statements { self.new.statements.items ≡ [] }
+        ensures own { self.new.own ≡ 0 }
     {
         self.nodes.clear();
         self.statements.clear();
@@ -110,5 +114,37 @@ impl Plan {
     {
         let old = self.statements[at];
         self.statements[at] = old.with_body(body);
+    }
+
+    // A REPEAT with this count begins.
+    pub(crate) fn open_repeat(&mut self, count: Expression) -> OpenRepeat
+        requires room { vec_len self.old.statements < 8192 }
+        requires inside { count.root.index < vec_len self.old.nodes }
+        ensures nodes { self.new.nodes ≡ self.old.nodes }
+        ensures statements { self.new.statements.items ≡ self.old.statements.items ++ (Repeat count 0 ∷ []) }
+        ensures own { self.new.own ≡ self.old.own + 14 }
+        ensures len { vec_len self.new.statements ≡ vec_len self.old.statements + 1 }
+        ensures entry { result.statement ≡ vec_len self.old.statements }
+        ensures need { result.need ≡ spent self.new }
+    {
+        let statement = self.statements.len();
+        self.add_statement(Statement::Repeat { count, body: 0 });
+        let need = self.spent();
+        OpenRepeat { statement, need }
+    }
+
+    // A REPEAT ends.
+    pub(crate) fn end_repeat(&mut self, repeat: OpenRepeat)
+        requires room { vec_len self.old.statements < 8192 }
+        requires entry { repeat.statement < vec_len self.old.statements }
+        requires need { repeat.need ≤ spent self.old }
+        ensures nodes { self.new.nodes ≡ self.old.nodes }
+        ensures statements { self.new.statements.items ≡ slice_set self.old.statements.items repeat.statement (with_body (slice_index_or self.old.statements.items repeat.statement (End 0)) (spent self.old - repeat.need)) ++ (End (spent self.old - repeat.need) ∷ []) }
+        ensures own { self.new.own ≡ self.old.own }
+        ensures len { vec_len self.new.statements ≡ vec_len self.old.statements + 1 }
+    {
+        let body = self.spent() - repeat.need;
+        self.set_body(repeat.statement, body);
+        self.add_statement(Statement::End { body });
     }
 }

@@ -1,4 +1,4 @@
-// The plan language: its marks, its reader, and the tables of a plan.
+// The plan language: its reader, and the tables of a plan.
 #![tactic(auto)]
 
 pub mod access;
@@ -8,12 +8,9 @@ mod grow;
 pub mod limits;
 mod line;
 mod mark;
-mod marks;
 mod nesting;
 mod read;
 pub mod reader;
 mod repeats;
-mod scan;
 pub mod tables;
 pub mod tree;
-mod word;

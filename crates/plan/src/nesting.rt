@@ -1,9 +1,20 @@
 // How many parentheses and brackets are open while a text is read.
-ghost use Rattle.std.specs.Prelude.{◌≡◌, ◌+◌, ◌<◌};
+ghost use Rattle.std.specs.Prelude.{◌≡◌, ◌+◌, ◌<◌, nat_le};
+
+use crate::limits::NESTING;
 
 #[derive(Drop)]
 pub struct Nesting {
     pub(crate) depth: u8,
+}
+
+impl Nesting {
+    // Whether no more may be open.
+    pub(crate) fn is_full(&self) -> bool
+        ensures { result ≡ nat_le 16 self.now.depth }
+    {
+        self.depth >= NESTING
+    }
 }
 
 // Stands for one open parenthesis or bracket; its end restores the count, however it is left.

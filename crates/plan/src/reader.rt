@@ -1,13 +1,14 @@
 // A reader of plans: where it stands in the marks, and what it has made of them.
 ghost use Rattle.std.specs.Prelude.{◌≡◌, ◌+◌, length, OnOk};
-ghost use Rattle.plan.specs.Reading.{rest, first, tail, operator, wanted_next, place_of, Refused, Goes};
+ghost use Rattle.plan.specs.Reading.{rest, first, tail, operator, sign, wanted_next, place_of, Refused, Exceeded, Goes, Passes, Leads};
 
-use crate::fault::{MarkFault, ReadFault};
+use crate::fault::ReadFault;
 use crate::mark::Fixed;
-use crate::marks::Marks;
 use crate::tables::Plan;
 use grammar::mark::{Bracket, Mark};
 use isa::kinds::Arithmetic;
+use marks::fault::MarkFault;
+use marks::text::Marks;
 
 // Reads texts into its own tables, which are made once.
 #[derive(Drop)]
@@ -22,8 +23,9 @@ impl Reader {
     pub(crate) fn peek(&self) -> Option<Mark>
         ensures { result ≡ first (rest self.now) }
     {
-        if self.at < self.marks.placed.len() {
-            Some(self.marks.placed[self.at].mark)
+        let placed = self.marks.placed();
+        if self.at < placed.len() {
+            Some(placed[self.at].mark)
         } else {
             None
         }
@@ -35,7 +37,7 @@ impl Reader {
         ensures marks { self.new.marks ≡ self.old.marks }
         ensures plan { self.new.plan ≡ self.old.plan }
     {
-        if self.at < self.marks.placed.len() {
+        if self.at < self.marks.placed().len() {
             self.at += 1;
         }
     }
@@ -45,10 +47,11 @@ impl Reader {
     pub(crate) fn place(&self) -> Result<usize, MarkFault>
         ensures { result ≡ place_of (rest self.now) self.now.marks.end }
     {
-        if self.at < self.marks.placed.len() {
-            Ok(self.marks.placed[self.at].place)
+        let placed = self.marks.placed();
+        if self.at < placed.len() {
+            Ok(placed[self.at].place)
         } else {
-            self.marks.end
+            self.marks.end()
         }
     }
 
@@ -60,12 +63,31 @@ impl Reader {
         Err(ReadFault::Grammar(place))
     }
 
+    // The fault of a mark that passes its limit.
+    pub(crate) fn too_deep<T>(&self) -> Result<T, ReadFault>
+        ensures { Exceeded (rest self.now) self.now.marks.end result }
+    {
+        let place = self.place()?;
+        Err(ReadFault::Nesting(place))
+    }
+
     // The operator that comes next, if one does.
     pub(crate) fn operator(&self) -> Option<Arithmetic>
         ensures { result ≡ operator (first (rest self.now)) }
     {
         match self.peek() {
             Some(Mark::Operator(operator)) => Some(operator),
+            _ => None,
+        }
+    }
+
+    // The + or - that comes next, if one does.
+    pub(crate) fn sign(&self) -> Option<Arithmetic>
+        ensures { result ≡ sign (operator (first (rest self.now))) }
+    {
+        match self.operator() {
+            Some(Arithmetic::Add) => Some(Arithmetic::Add),
+            Some(Arithmetic::Sub) => Some(Arithmetic::Sub),
             _ => None,
         }
     }
@@ -88,6 +110,8 @@ impl Reader {
         ensures goes { Goes self.old self.new }
         ensures spare { OnOk result (length (rest self.new) + 1 ≡ length (rest self.old)) }
         ensures plan { self.new.plan ≡ self.old.plan }
+        ensures leads { Leads self.old self.new wanted result }
+        ensures says { Passes self.old self.new wanted result }
     {
         if self.is_next(wanted) {
             self.skip();

@@ -1,5 +1,8 @@
 use Rattle.std.proofs.Common.{◌≡◌, ℕ, ◌+◌, ◌*◌, ◌<◌, ◌≤◌, length, vec_len}
-use Rattle.plan.specs.Reading.{rest, Goes}
+use Rattle.language.specs.Limits.{nodes}
+use Rattle.language.specs.Plans.{Tree}
+use Rattle.grammar.proofs.Acceptor.{Left, Hole, have, same}
+use Rattle.plan.specs.Reading.{rest, first, operator, tree_in, Goes, Quiet, ask, StopsAt, not_star}
 use Rattle.plan.proofs.reader.Reader.+expr_factor_sum_term.Given as goal
 
 abbrev pub decreases-expr : goal.decreases-expr
@@ -19,6 +22,10 @@ invariant-term-loop-self l =
     (l.nesting.depth ≡ l.initial.nesting.depth)
     × Goes l.initial.self l.self
     × (l.left.index < vec_len l.self.plan.nodes)
+    × ((d p : ℕ) (m : Left) (S : Tree → Tree) (k : Hole) → d ≡ l.initial.nesting.depth → ask l.initial.self d p (have m S (tree_in l.initial.self l.initial.left) k) ≡ ask l.self d p (have m S (tree_in l.self l.left) k))
+    × (length (rest l.self) ≤ length (rest l.initial.self))
+    × (vec_len l.self.plan.nodes + nodes (tree_in l.initial.self l.initial.left) ≡ vec_len l.initial.self.plan.nodes + nodes (tree_in l.self l.left))
+    × Quiet l.initial.self l.self
 
 abbrev pub decreases-term-loop-self : goal.decreases-term-loop-self
 decreases-term-loop-self l = length (rest l.self)
@@ -28,6 +35,10 @@ invariant-sum-loop-operator l =
     (l.nesting.depth ≡ l.initial.nesting.depth)
     × Goes l.initial.self l.self
     × (l.left.index < vec_len l.self.plan.nodes)
+    × ((d p : ℕ) (m : Left) (k : Hole) → d ≡ l.initial.nesting.depth → ask l.initial.self d p (have m same (tree_in l.initial.self l.initial.left) k) ≡ ask l.self d p (have m same (tree_in l.self l.left) k))
+    × StopsAt not_star (operator (first (rest l.self)))
+    × (vec_len l.self.plan.nodes + nodes (tree_in l.initial.self l.initial.left) ≡ vec_len l.initial.self.plan.nodes + nodes (tree_in l.self l.left))
+    × Quiet l.initial.self l.self
 
 abbrev pub decreases-sum-loop-operator : goal.decreases-sum-loop-operator
 decreases-sum-loop-operator l = length (rest l.self)

@@ -1,99 +1,79 @@
-use Rattle.std.proofs.Common.{◌≡◌, length, vec_len, sym, ap, ◌∙◌, subst, arith, rules}
+use Rattle.std.proofs.Common.{◌-◌, ◌≤◌, length, vec_items, sym, refl, ◌∙◌, subst, arith, rules}
+use Rattle.language.specs.Limits.{nodes}
 use Rattle.stack.specs.Items.{items}
+use Rattle.grammar.specs.declared.mark.Mark.TheVariants.{LineEnd}
+use Rattle.grammar.proofs.Acceptor.{add}
+use Rattle.plan.specs.declared.fault.ReadFault.TheVariants as fault-is
+use Rattle.plan.specs.declared.reader.Reader.{Reader}
 use Rattle.plan.specs.Plans.{spent}
-use Rattle.plan.specs.Reading.{Opened}
-use Rattle.plan.proofs.Opening.{opened_more, opened_pushed, opened_rest, opened_last, spare_behind, onward_behind, less_behind, made_all}
+use Rattle.plan.specs.Reading.{rest}
+use Rattle.plan.proofs.Beginning.{quiet_skip, same-starts, laid_starts}
+use Rattle.plan.proofs.Steps.{Skip, goes_skip, shorter, by_err, err_made}
+use Rattle.plan.proofs.Lines.{blank_passed, told_err}
+use Rattle.plan.proofs.Opening.{opened_more, onward-goes, onward_laid}
+use Rattle.plan.proofs.Laying.{laid_shows, ask-same}
+use Rattle.plan.specs.Showing.{Shows, doing}
 use Rattle.plan.proofs.reader.Reader.line.Goals as goal
 
-pub end_line-requires : goal.end_line-requires
-end_line-requires c =
+pub returns-in-LineEnd : goal.returns-in-LineEnd
+returns-in-LineEnd c =
     let a = c.args.self.now in
-    let q = c.skip-in-End.ensures in
-    let x = opened_last a.plan c.in-Some.repeat (items c.pop.new.self) (subst (Opened a.plan) c.in-Some.ensures.popped c.requires.opened) in
-    record {
-      spare = spare_behind a c.skip-in-End.new.self a c.args.mark c.requires.seen q.rest q.plan c.requires.rooms;
-      entry = omega (arith, x.0, ap (λ p. vec_len p.statements) q.plan);
-      need = omega (arith, x.1, ap spent q.plan);
-    }
-
-pub returns-in-Let : goal.returns-in-Let
-returns-in-Let c =
-    let a = c.args.self.now in
-    let q = c.skip-in-Let.ensures in
-    let r = c.let_line.ensures in
-    let b = c.skip-in-Let.new.self in
-    let z = c.let_line.new.self in
-    let o = onward_behind a b z c.args.mark c.requires.seen q.rest q.plan q.marks r.onward in
-    record {
-      depth = r.depth;
-      onward = o;
-      less = made_all c.let_line.result _ (less_behind a b z c.args.mark c.requires.seen q.rest q.plan r.onward);
-      opened = opened_more a.plan z.plan (items c.args.repeats.now) o.longer o.dearer c.requires.opened;
-      slots = c.requires.slots;
-    }
-
-pub returns-in-Put : goal.returns-in-Put
-returns-in-Put c =
-    let a = c.args.self.now in
-    let q = c.skip-in-Put.ensures in
-    let r = c.put_line.ensures in
-    let b = c.skip-in-Put.new.self in
-    let z = c.put_line.new.self in
-    let o = onward_behind a b z c.args.mark c.requires.seen q.rest q.plan q.marks r.onward in
-    record {
-      depth = r.depth;
-      onward = o;
-      less = made_all c.put_line.result _ (less_behind a b z c.args.mark c.requires.seen q.rest q.plan r.onward);
-      opened = opened_more a.plan z.plan (items c.args.repeats.now) o.longer o.dearer c.requires.opened;
-      slots = c.requires.slots;
-    }
-
-pub returns-in_ok-repeat-in-Repeat : goal.returns-in_ok-repeat-in-Repeat
-returns-in_ok-repeat-in-Repeat c =
-    let a = c.args.self.now in
-    let q = c.skip-in-Repeat.ensures in
-    let b = c.skip-in-Repeat.new.self in
-    let z = c.repeat_line.new.self in
-    let r = c.in_ok-repeat-in-Repeat.ensures in
-    let x = c.in_ok-repeat-in-Repeat.repeat in
-    let o = onward_behind a b z c.args.mark c.requires.seen q.rest q.plan q.marks r.onward in
-    record {
-      depth = r.depth;
-      onward = o;
-      less = less_behind a b z c.args.mark c.requires.seen q.rest q.plan r.onward;
-      opened = opened_pushed z.plan x c.args.repeats.now c.push.new.self c.push.result c.push.ensures.pushed (opened_more a.plan z.plan (items c.args.repeats.now) o.longer o.dearer c.requires.opened) r.opened.0 r.opened.1;
-      slots = c.push.ensures.room ∙ c.requires.slots;
-    }
-
-pub returns-in_err-repeat-in-Repeat : goal.returns-in_err-repeat-in-Repeat
-returns-in_err-repeat-in-Repeat c =
-    let a = c.args.self.now in
-    let q = c.skip-in-Repeat.ensures in
-    let b = c.skip-in-Repeat.new.self in
-    let z = c.repeat_line.new.self in
-    let r = c.in_err-repeat-in-Repeat.ensures in
-    let o = onward_behind a b z c.args.mark c.requires.seen q.rest q.plan q.marks r.onward in
-    record {
-      depth = r.depth;
-      onward = o;
-      less = made_all c.from_residual-in_err-repeat-in-Repeat.result _ (less_behind a b z c.args.mark c.requires.seen q.rest q.plan r.onward);
-      opened = opened_more a.plan z.plan (items c.args.repeats.now) o.longer o.dearer c.requires.opened;
-      slots = c.requires.slots;
-    }
-
-pub returns-in-Some : goal.returns-in-Some
-returns-in-Some c =
-    let a = c.args.self.now in
-    let q = c.skip-in-End.ensures in
-    let b = c.skip-in-End.new.self in
-    let z = c.end_line.new.self in
-    let r = c.end_line.ensures in
-    let o = onward_behind a b z c.args.mark c.requires.seen q.rest q.plan q.marks r in
-    let left = opened_rest a.plan c.in-Some.repeat (items c.pop.new.self) (subst (Opened a.plan) c.in-Some.ensures.popped c.requires.opened) in
+    let q = c.skip.ensures in
+    let k : Skip a c.skip.new.self LineEnd = record { seen = search rules; rest_is = q.rest; marks_is = q.marks; plan_is = q.plan } in
+    let on = onward-goes (goes_skip k) in
+    let os = items c.args.repeats.now in
     record {
       depth = search rules;
-      onward = o;
-      less = made_all c.end_line.result _ (less_behind a b z c.args.mark c.requires.seen q.rest q.plan r);
-      opened = opened_more a.plan z.plan (items c.pop.new.self) o.longer o.dearer left;
-      slots = c.in-Some.ensures.room ∙ c.requires.slots;
+      onward = on;
+      less = omega (arith, shorter k);
+      starts = same-starts a c.skip.new.self q.plan (quiet_skip k refl);
+      opened = opened_more a.plan c.skip.new.self.plan os on.longer on.dearer c.requires.opened;
+      slots = c.requires.slots;
+      says = λ K S. (K, subst (λ p. Shows (vec_items p.nodes) (vec_items p.statements) (spent p) os K) (sym q.plan) S, blank_passed _ (length os) K k);
     }
+
+pub returns-in_ok-statement-in_default : goal.returns-in_ok-statement-in_default
+returns-in_ok-statement-in_default c =
+    let a = c.args.self.now in
+    let r = c.in_ok-statement-in_default.ensures in
+    let s = c.in_ok-statement-in_default.statement in
+    let b = c.statement.new.self in
+    let w = c.add_statement.ensures in
+    let os = items c.args.repeats.now in
+    let z : Reader = record { marks = b.marks; at = b.at; plan = c.add_statement.new.self } in
+    let up : b.plan.own ≤ z.plan.own = omega (arith, w.own) in
+    let on = onward_laid {c = z} r.goes r.less refl refl w.nodes w.len up in
+    let d = c.args.nesting.now.depth in
+    record {
+      depth = r.depth;
+      onward = on;
+      less = r.less;
+      starts = laid_starts a b z s r.goes.statements w.statements refl r.placed;
+      opened = opened_more a.plan z.plan os on.longer on.dearer c.requires.opened;
+      slots = c.requires.slots;
+      says = λ K S. (add (doing (vec_items b.plan.nodes) s) K, laid_shows a b z s r.goes r.laid w.nodes w.statements w.own S, r.says (length os) K ∙ ask-same b z d (length os) _ refl refl);
+    }
+
+pub returns-in_err-statement-in_default : goal.returns-in_err-statement-in_default
+returns-in_err-statement-in_default c =
+    let a = c.args.self.now in
+    let r = c.in_err-statement-in_default.ensures in
+    let x = c.from_residual.result in
+    let f = c.in_err-statement-in_default.field-0.0 in
+    let h = c.from_residual.ensures.1 in
+    let os = items c.args.repeats.now in
+    let on = onward-goes r.goes in
+    record {
+      depth = r.depth;
+      onward = on;
+      less = err_made x _ (by_err x f h);
+      starts = err_made x _ (by_err x f h);
+      opened = opened_more a.plan c.statement.new.self.plan os on.longer on.dearer c.requires.opened;
+      slots = c.requires.slots;
+      says = λ K S. told_err a _ _ os os K x f h (r.says (length os) K);
+    }
+
+pub returns-in-End : goal.returns-in-End
+returns-in-End c =
+    let r = c.end.ensures in
+    record { depth = search rules; onward = r.onward; less = r.less; starts = r.starts; opened = r.opened; slots = r.slots; says = λ K S. r.says c.args.nesting.now.depth K S }

@@ -1,15 +1,9 @@
-use Rattle.std.proofs.Common.{◌<◌, ◌≤◌, length, vec_items, arith}
+use Rattle.std.proofs.Common.{◌∙◌}
 use Rattle.plan.proofs.Front.{place_at, place_none}
 use Rattle.plan.proofs.reader.Reader.place.Goals as goal
 
-pub returns-then-self-len : goal.returns-then-self-len
-returns-then-self-len c =
-    let ps = vec_items c.args.self.now.marks.placed in
-    let h : c.args.self.now.at < length ps = omega (arith, c.if-self-len.true, c.len.ensures, c.args.self.now.marks.placed.ok.0) in
-    place_at ps _ _ c.index.result.now c.index.ensures h
+pub returns-then-self-placed : goal.returns-then-self-placed
+returns-then-self-placed c = place_at _ _ _ c.placed-placed.ensures _ c.index-placed-self.result c.index-placed-self.is c.if-self-placed.true
 
-pub returns-else-self-len : goal.returns-else-self-len
-returns-else-self-len c =
-    let ps = vec_items c.args.self.now.marks.placed in
-    let h : length ps ≤ c.args.self.now.at = omega (arith, c.if-self-len.false, c.len.ensures, c.args.self.now.marks.placed.ok.0) in
-    place_none ps _ _ h
+pub returns-else-self-placed : goal.returns-else-self-placed
+returns-else-self-placed c = c.end.ensures ∙ place_none _ _ c.args.self.now.at c.placed-placed.ensures _ c.if-self-placed.false

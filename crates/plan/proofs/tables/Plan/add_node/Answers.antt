@@ -1,4 +1,4 @@
-use Rattle.std.proofs.Common.{◌≤◌, length, vec_items, sym, subst, arith, rules}
+use Rattle.std.proofs.Common.{◌≤◌, length, vec_items, sym, subst, arith}
 use Rattle.plan.specs.declared.tree.Node.TheVariants.{Number}
 use Rattle.plan.specs.Tables.{reach, Closed}
 use Rattle.plan.proofs.Growing.{each_push}

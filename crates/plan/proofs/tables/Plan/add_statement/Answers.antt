@@ -1,4 +1,4 @@
-use Rattle.std.proofs.Common.{◌≡◌, ◌+◌, ◌≤◌, length, vec_items, vec_len, sym, ap, ◌∙◌, subst, arith, rules}
+use Rattle.std.proofs.Common.{◌+◌, vec_items, vec_len, sym, ap, ◌∙◌, subst, arith}
 use Rattle.plan.specs.declared.tree.Statement.TheVariants.{End}
 use Rattle.plan.specs.Tables.{roots, Rooted, total, own, loop}
 use Rattle.plan.proofs.Growing.{each_push, total-push, owns_most, loops_most, own_most, loop_most}

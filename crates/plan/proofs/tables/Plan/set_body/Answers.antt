@@ -1,7 +1,7 @@
-use Rattle.std.proofs.Common.{◌≡◌, ◌<◌, length, get_or, vec_items, vec_len, sym, ap, ◌∙◌, arith, rules}
+use Rattle.std.proofs.Common.{◌≡◌, get_or, vec_items, vec_len, sym, ap, ◌∙◌, arith}
 use Rattle.std.proofs.lemmas.List.{get_or_read_under}
 use Rattle.plan.specs.declared.tree.Statement.TheVariants.{End}
-use Rattle.plan.specs.Tables.{roots, total, own, loop}
+use Rattle.plan.specs.Tables.{roots, own, loop}
 use Rattle.plan.proofs.Growing.{each_set, total-set, with_body_own, with_body_loop, with_body_roots}
 use Rattle.plan.proofs.tables.Plan.set_body.Goals as goal
 

@@ -1,0 +1,4 @@
+mod Every
+mod Same
+mod Scanning
+mod Spelled

@@ -1,0 +1,4 @@
+pub mod Endings
+pub mod Finding
+pub mod Spelling
+pub mod Texts

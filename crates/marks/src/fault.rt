@@ -1,0 +1,6 @@
+// What can be wrong with the marks of a text.
+#[derive(Clone, Copy)]
+pub enum MarkFault {
+    // What stands at this byte is no mark.
+    Strange(usize),
+}
