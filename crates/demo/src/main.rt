@@ -2,7 +2,6 @@
 #![tactic(auto)]
 
 mod journal;
-mod listing;
 mod runs;
 
 use anyhow::anyhow;
@@ -11,7 +10,7 @@ use checker::pass::Pass;
 use compiler::tables::Compiler;
 use isa::layout::{block_count, instruction_at, instruction_count, start_at};
 use isa::limits::MODULE_WORDS;
-use listing::{block_end, print_instruction, print_module};
+use listing::module::{block_end, print_instruction, print_module};
 use plan::tables::Plan;
 use runs::{tell_struck, tell_unstruck};
 use std::alloc::Global;

@@ -1,0 +1,2 @@
+-- Scripts: the command that a line is.
+pub mod Commands

@@ -1,0 +1,4 @@
+mod Running
+mod Reading
+mod Placing
+mod Listing
