@@ -1,5 +1,5 @@
 -- The bytes of a card's words are those of its entries.
-use Rattle.std.proofs.Common.{◌≡◌, ℕ, zero, suc, ◌+◌, ◌*◌, ◌/◌, ◌%◌, ◌^◌, ◌<◌, Bool, true, false, cond, eqb, ltb, ◌⊎◌, get_or, sym, refl, ap, ◌∙◌, inl, inr, add-zero, arith}
+use Rattle.std.proofs.Common.{◌≡◌, ℕ, zero, suc, ◌+◌, ◌*◌, ◌/◌, ◌%◌, ◌^◌, ◌<◌, Bool, true, false, cond, ltb, ◌⊎◌, get_or, sym, refl, ap, ◌∙◌, inl, inr, add-zero, arith}
 use Rattle.std.proofs.lemmas.Bool.{cases_eq}
 use Rattle.isa.specs.Layout.{byte, slot_byte}
 use Rattle.rules.specs.Notes.{Colour, green, blue}
@@ -8,7 +8,6 @@ use Rattle.translation.specs.Code.{twice}
 use Rattle.rules.specs.Words.{variable}
 use Rattle.translation.specs.Cards.{twin_slot, slots_from, card}
 use Rattle.translation.proofs.Twins.{half, side}
-use Rattle.compiler.specs.Cards.{twin_bytes}
 use Rattle.compiler.specs.Laying.{card_word}
 
 -- a register's entry is that of its twin in its colour

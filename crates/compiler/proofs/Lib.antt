@@ -1,7 +1,15 @@
 pub mod Rests
-pub mod Forming
 pub mod Filling
 pub mod Carding
 pub mod Staging
 pub mod Lining
 pub mod Finishing
+pub mod Tabled
+pub mod Adding
+pub mod Halving
+pub mod Flattened
+pub mod Widened
+pub mod Weighing
+pub mod Judging
+pub mod Once
+pub mod Building

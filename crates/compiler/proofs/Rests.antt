@@ -1,8 +1,6 @@
 -- The rest of a list behind its first entries.
-use Rattle.std.proofs.Common.{◌≡◌, ℕ, zero, suc, ◌+◌, ◌-◌, ◌<◌, Bool, true, ◌&&◌, List, [], ◌∷◌, length, get_or, drop, sym, refl, ap, ◌∙◌, add-zero, arith}
+use Rattle.std.proofs.Common.{◌≡◌, ℕ, suc, ◌+◌, ◌-◌, ◌<◌, List, ◌∷◌, length, get_or, drop, sym, ap, ◌∙◌, add-zero, arith}
 use Rattle.std.proofs.lemmas.List.{get_or-drop, drop-drop, length-drop}
-use Rattle.isa.specs.Layout.{every}
-use Rattle.isa.proofs.Every.{every-none, every_suc}
 
 -- the first entry of the rest
 pub rest-front : {X : Type 0} (n : ℕ) (xs : List X) (d x : X) (ys : List X) → drop n xs ≡ x ∷ ys → get_or xs n d ≡ x
@@ -16,7 +14,3 @@ pub rest_below : {X : Type 0} (n : ℕ) (xs : List X) (x : X) (ys : List X) → 
 rest_below n xs x ys e =
     let l : length xs - n ≡ suc (length ys) = sym (length-drop n xs) ∙ ap length e in
     omega arith
-
-pub every_all : (n : ℕ) (f : ℕ → Bool) → ((k : ℕ) → k < n → f k ≡ true) → every n f ≡ true
-every_all zero f h = every-none f
-every_all (suc n) f h = every_suc n f ∙ ap (λ b. b && f n) (every_all n f (λ k l. h k (omega arith))) ∙ h n (omega arith)

@@ -1,4 +1,4 @@
--- The cards of compiled code.
+-- Inner: the cards of compiled code, as words.
 use Rattle.std.specs.Prelude.{ℕ, ◌+◌, ◌*◌, cond, nat_lt}
 
 -- the bytes of twin t's registers on a card that gives the first n twins a variable each: green t, then blue t

@@ -1,5 +1,5 @@
--- Doubling: one colour's half of an instruction over twins.
-use Rattle.std.specs.Prelude.{ℕ, ◌+◌, ◌*◌}
+-- Inner, doubling: one colour's half of an instruction over twins.
+use Rattle.std.specs.Prelude.{◌+◌, ◌*◌}
 use Rattle.isa.specs.declared.kinds.Colour.{Colour}
 use Rattle.isa.specs.declared.kinds.Colour.TheVariants.{Green, Blue}
 use Rattle.isa.specs.declared.kinds.Register.{Register}

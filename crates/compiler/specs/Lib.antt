@@ -4,3 +4,9 @@ pub mod Faults
 pub mod Listing
 pub mod Laying
 pub mod Stages
+pub mod Emitting
+pub mod Halves
+pub mod Selecting
+pub mod Widths
+pub mod Deciding
+pub mod Compiling

@@ -1,133 +1,90 @@
 // Compiling a text.
-ghost use Rattle.std.specs.Prelude.{◌≡◌, ℕ, ◌+◌, ◌*◌, ◌<◌, ◌≤◌, length, Err, vec_len, vec_capacity, OnErr, slice_index};
-ghost use Rattle.compiler.specs.declared.fault.CompileFault.TheVariants.{LongText, ShortOutput};
+ghost use Rattle.std.specs.Prelude.{◌≡◌, ◌≤◌, length, IfOk, vec_len};
+ghost use Rattle.language.specs.Plans.{Plan as Tree, done};
+ghost use Rattle.plan.specs.Reads.{Holds};
+ghost use Rattle.compiler.specs.Compiling.{Built, Compiles, Judges};
+ghost use Rattle.compiler.specs.Selecting.{Small};
 
 use crate::fault::CompileFault;
 use crate::half::Half;
+use crate::judge::{first_wide, too_large, too_long, too_short, widest};
 use crate::lines::Lines;
 use crate::tables::Compiler;
 use crate::twin::Twin;
 use crate::width::measure;
-use crate::write::{count_blocks, write_module};
-use isa::limits::{BLOCKS, INSTRUCTIONS, MODULE_WORDS};
+use crate::write::write_module;
 use plan::limits::TEXT;
 use plan::reader::Reader;
-use plan::tables::Plan;
-use plan::tree::{Expression, Statement};
 use std::alloc::{AllocError, Global};
 
-// The widest expression that the twins for values in between can hold.
-const WIDTH: u32 = 5;
-// REPEATs of a plan: each makes two blocks.
-const REPEATS: u32 = 31;
-
-fn judge_width(widths: &[u32], e: Expression) -> Result<(), CompileFault> {
-    let at = e.root.index;
-    if at < widths.len() && widths[at] > WIDTH {
-        return Err(CompileFault::Wide(e.place));
-    }
-    Ok(())
-}
-
-// The first expression of a statement that is too wide; an address comes before its word.
-fn judge_statement(widths: &[u32], statement: Statement) -> Result<(), CompileFault> {
-    match statement {
-        Statement::Let(_, e) => judge_width(widths, e),
-        Statement::Put(address, word) => {
-            judge_width(widths, address)?;
-            judge_width(widths, word)
-        }
-        Statement::Repeat { count, body: _ } => judge_width(widths, count),
-        Statement::End { body: _ } => Ok(()),
-    }
-}
-
-// The first expression that is too wide, if one is.
-fn judge_widths(widths: &[u32], statements: &[Statement]) -> Result<(), CompileFault> {
-    for i in 0..statements.len() {
-        let statement = statements[i];
-        judge_statement(widths, statement)?;
-    }
-    Ok(())
-}
-
-fn judge_size(plan: &Plan) -> Result<(), CompileFault> {
-    if plan.need() > INSTRUCTIONS || plan.repeats() > REPEATS {
-        return Err(CompileFault::Large);
-    }
-    Ok(())
+// Slots for the nodes of which a part of the code is still to come: a plan's need is at most 1,024.
+fn slots(heap: Global) -> Result<Vec<Half>, AllocError>
+    ensures { IfOk result (λ v. vec_len v ≡ 1024) }
+{
+    vec![in heap; Half::Load(Twin { number: 0 }); 1024]
 }
 
 impl Compiler {
     // A compiler with room for the longest text and the largest module.
-    pub fn new(heap: Global) -> Result<Compiler, AllocError> {
+    pub fn new(heap: Global) -> Result<Compiler, AllocError>
+        ensures plan { IfOk result (λ x. Holds x.reader.plan done) }
+        ensures widest { IfOk result (λ x. x.widest ≡ 0) }
+    {
         let reader = Reader::new(heap)?;
         let widths = Vec::with_capacity(heap, TEXT)?;
-        let halves = vec![in heap; Half::Load(Twin { number: 0 }); 1024]?;
+        let halves = slots(heap)?;
         let lines = Lines::new(heap)?;
         Ok(Compiler {
             reader,
             widths,
             halves,
             lines,
+            widest: 0,
         })
-    }
-
-    // The plan that was read last.
-    pub fn plan(&self) -> &Plan
-        ensures { result.now ≡ self.now.reader.plan }
-    {
-        self.reader.plan()
-    }
-
-    // The width of the widest expression of the plan that was read last.
-    pub fn widest(&self) -> u32
-        ensures { (k : ℕ) → k < vec_len self.now.widths → slice_index self.now.widths.items k ≤ result }
-    {
-        match self.widths.iter().copied().max() {
-            Some(widest) => widest,
-            None => 0,
-        }
     }
 
     // The first fault of a text for an output of so many words: its length, the output's, what the
     // reader finds, the widths, and the size of the whole.
     fn judge(&mut self, text: &[u8], room: usize) -> Result<(), CompileFault>
-        ensures long { 8192 < length text.now → result ≡ Err LongText }
-        ensures short { length text.now ≤ 8192 → room < 2626 → result ≡ Err ShortOutput }
+        ensures { Judges text.now room self.new.reader.plan self.new.widest result }
     {
-        if text.len() > TEXT {
+        if too_long(text) {
             return Err(CompileFault::LongText);
         }
-        if room < MODULE_WORDS {
+        if too_short(room) {
             return Err(CompileFault::ShortOutput);
         }
         self.reader.read(text)?;
         let plan = self.reader.plan();
         measure(&mut self.widths, plan.nodes());
-        judge_widths(self.widths.as_slice(), plan.statements())?;
-        judge_size(plan)
+        if let Some(place) = first_wide(self.widths.as_slice(), plan.statements()) {
+            return Err(CompileFault::Wide(place));
+        }
+        if too_large(plan) {
+            return Err(CompileFault::Large);
+        }
+        self.widest = widest(self.widths.as_slice(), plan.statements());
+        Ok(())
     }
 
-    // Writes the module of the plan that was read; answers the number of its words. The room and the
-    // size are judged before; that the lines have no more blocks than the plan's REPEATs say is tested.
-    fn build(&mut self, out: &mut [u32]) -> usize {
+    // Writes the module of the plan that was read, which is judged before; answers the number of its
+    // words.
+    fn build(&mut self, out: &mut [u32]) -> usize
+        requires small { (P : Tree) × Small self.old.reader.plan.nodes.items self.old.reader.plan.statements.items P }
+        requires room { 2626 ≤ length out.old }
+        ensures kept { self.new.reader ≡ self.old.reader }
+        ensures widest { self.new.widest ≡ self.old.widest }
+        ensures built { (P : Tree) → Small self.old.reader.plan.nodes.items self.old.reader.plan.statements.items P → Built P out.old out.new result }
+    {
         let plan = self.reader.plan();
         self.lines.select(self.halves.as_mut_slice(), plan.nodes(), plan.statements());
-        let lines = self.lines.lines.as_slice();
-        let behind = self.lines.entry;
-        if out.len() < MODULE_WORDS || count_blocks(lines, behind) > BLOCKS as usize {
-            return 0;
-        }
-        write_module(out, lines, behind)
+        write_module(out, self.lines.lines.as_slice(), self.lines.entry)
     }
 
     // Compiles a text: writes the words of a module to the output, leaves the rest of it, and answers
     // their number; or names the first fault, and writes nothing.
     pub fn compile(&mut self, text: &[u8], out: &mut [u32]) -> Result<usize, CompileFault>
-        ensures kept { OnErr result (out.new ≡ out.old) }
-        ensures long { 8192 < length text.now → result ≡ Err LongText }
-        ensures short { length text.now ≤ 8192 → length out.old < 2626 → result ≡ Err ShortOutput }
+        ensures { Compiles text.now out.old out.new self.new.reader.plan self.new.widest result }
     {
         self.judge(text, out.len())?;
         Ok(self.build(out))

@@ -7,8 +7,8 @@ use plan::tree::NodeId;
 pub enum Half {
     // All of the node's code, which leaves its value in the twin.
     Whole(NodeId, Twin),
-    // The load of a cell whose address is in the twin.
+    // The load of the cell whose address is in the twin.
     Load(Twin),
-    // The operation on the twin and the one behind it.
+    // The operation on the values in two twins, whose result goes to the first.
     Operate(Arithmetic, Twin, Twin),
 }

@@ -2,14 +2,19 @@
 // a module.
 #![tactic(auto)]
 
+pub mod access;
 pub mod compile;
-pub mod double;
+mod double;
+mod emit;
+mod expression;
 pub mod fault;
-pub mod half;
-pub mod line;
-pub mod lines;
+mod half;
+mod judge;
+mod line;
+mod lines;
 mod select;
 pub mod tables;
-pub mod twin;
+mod twin;
+pub mod unique;
 mod width;
 mod write;

@@ -1,4 +1,4 @@
-ghost use Rattle.std.specs.Prelude.{◌≡◌, ◌<◌};
+ghost use Rattle.std.specs.Prelude.{◌<◌};
 
 // A pair of registers that hold the two copies of one word: twin i is green register 2i and blue
 // register 2i + 1.

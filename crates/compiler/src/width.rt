@@ -1,6 +1,7 @@
 // How many twins an expression keeps values in at once.
-ghost use Rattle.std.specs.Prelude.{◌≡◌, ℕ, ◌<◌, ◌≤◌, length, vec_len, vec_capacity};
+ghost use Rattle.std.specs.Prelude.{◌≡◌, ℕ, ◌+◌, ◌<◌, ◌≤◌, length, vec_len, vec_capacity, slice_index};
 ghost use Rattle.plan.specs.Tables.{reach, Closed};
+ghost use Rattle.compiler.specs.Widths.{width_by, Measured};
 
 use plan::tree::Node;
 
@@ -8,24 +9,28 @@ use plan::tree::Node;
 // address's for a cell, and for an operation the larger of its left side's and one more than its
 // right side's.
 fn width(widths: &[u32], node: Node) -> u32
-    requires { reach node ≤ length widths.now }
+    requires reach { reach node ≤ length widths.now }
+    requires low { (k : ℕ) → slice_index widths.now k ≤ length widths.now }
+    requires few { length widths.now ≤ 8192 }
+    ensures value { result ≡ width_by widths.now node }
+    ensures low { result ≤ length widths.now + 1 }
 {
     match node {
         Node::Number(_) => 1,
         Node::Variable(_) => 1,
         Node::Cell(address) => widths[address.index],
-        Node::Binary(_, left, right) => widths[left.index].max(widths[right.index].saturating_add(
-            1,
-        )),
+        Node::Binary(_, left, right) => widths[left.index].max(widths[right.index] + 1),
     }
 }
 
 // The width of each node.
-pub fn measure(widths: &mut Vec<u32>, nodes: &[Node])
+pub(crate) fn measure(widths: &mut Vec<u32>, nodes: &[Node])
     requires room { length nodes.now ≤ vec_capacity widths.old }
+    requires few { length nodes.now ≤ 8192 }
     requires closed { Closed nodes.now }
     ensures len { vec_len widths.new ≡ length nodes.now }
     ensures capacity { vec_capacity widths.new ≡ vec_capacity widths.old }
+    ensures measured { Measured nodes.now widths.new.items }
 {
     widths.clear();
     for i in 0..nodes.len() {

@@ -99,13 +99,13 @@ module _ (m : Module) where
       ((a.0, a.1.0, record { head = a.1.1.0; test = a.1.1.1.0; one = b.1.0; down = b.1.1.0; back = b.1.1.1.0; leap = b.1.1.1.1.0 }, b.0, r.0), r.1)
 
 -- the number of lines
-over-is : (e : Tree) (p : ℕ) → over e p ≡ p + nodes e
+pub over-is : (e : Tree) (p : ℕ) → over e p ≡ p + nodes e
 over-is (number n) p = omega arith
 over-is (variable v) p = omega arith
 over-is (cell e) p = omega (arith, over-is e p)
 over-is (node o e f) p = omega (arith, over-is e p, over-is f (over e p))
 
-past_is : (P : Plan) (p : ℕ) → 2 * past P p ≡ 2 * p + needs P
+pub past_is : (P : Plan) (p : ℕ) → 2 * past P p ≡ 2 * p + needs P
 past_is done p = omega arith
 past_is (assign v e P) p = omega (arith, over-is e p, past_is P (suc (over e p)))
 past_is (put a b P) p = omega (arith, over-is a p, over-is b (over a p), past_is P (suc (over b (over a p))))

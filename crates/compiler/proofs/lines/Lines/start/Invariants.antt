@@ -1,0 +1,5 @@
+use Rattle.compiler.specs.Emitting.{Adds, zeros}
+use Rattle.compiler.proofs.lines.Lines.start.Given as goal
+
+abbrev pub invariant-loop-number : goal.invariant-loop-number
+invariant-loop-number l = Adds l.initial.self l.self (zeros l.number) l.number
