@@ -1,6 +1,6 @@
 // Lines of code over twin registers, emitted one by one.
 ghost use Rattle.std.specs.Prelude.{◌≡◌, ◌<◌, [], vec_len};
-ghost use Rattle.translation.specs.Code.{set as setTwin};
+ghost use Rattle.translation.specs.Code.{set as set_twin};
 ghost use Rattle.compiler.specs.declared.line.Entry.TheVariants.{Start};
 ghost use Rattle.compiler.specs.Listing.{single_of, source_of};
 ghost use Rattle.compiler.specs.Emitting.{Adds, one, begun};
@@ -11,7 +11,7 @@ use crate::twin::Twin;
 use std::alloc::{AllocError, Global};
 
 impl Lines {
-    pub(crate) fn new(heap: Global) -> Result<Lines, AllocError> {
+    pub fn new(heap: Global) -> Result<Lines, AllocError> {
         let lines = Vec::with_capacity(heap, 512)?;
         Ok(Lines {
             lines,
@@ -20,7 +20,7 @@ impl Lines {
     }
 
     // No line, before the first block.
-    pub(crate) fn clear(&mut self)
+    pub fn clear(&mut self)
         ensures none { self.new.lines.items ≡ [] }
         ensures len { vec_len self.new.lines ≡ 0 }
         ensures entry { self.new.entry ≡ Start 0 }
@@ -48,7 +48,7 @@ impl Lines {
 
     pub(crate) fn set(&mut self, twin: Twin, source: Source)
         requires { vec_len self.old.lines < 511 }
-        ensures { Adds self.old self.new (one (setTwin twin.number (source_of source))) 1 }
+        ensures { Adds self.old self.new (one (set_twin twin.number (source_of source))) 1 }
     {
         self.add(Single::Set(twin, source));
     }

@@ -1,7 +1,7 @@
 // The code of an expression. Nodes of which a part is still to come are kept on a stack, the one whose
 // code comes next on top.
 ghost use Rattle.std.specs.Prelude.{◌≡◌, ◌+◌, ◌<◌, ◌≤◌, [], ◌∷◌, ◌++◌, length, vec_len};
-ghost use Rattle.language.specs.Limits.{nodes as nodesOf, width};
+ghost use Rattle.language.specs.Limits.{nodes as nodes_of, width};
 ghost use Rattle.stack.specs.Items.{items, room as slots_of};
 ghost use Rattle.plan.specs.Tables.{Closed};
 ghost use Rattle.plan.specs.Trees.{tree_at};
@@ -82,9 +82,9 @@ impl Lines {
         requires closed { Closed nodes.now }
         requires inside { root.index < length nodes.now }
         requires narrow { twin.number + width (tree_at nodes.now root) ≤ 16 }
-        requires room { vec_len self.old.lines + nodesOf (tree_at nodes.now root) ≤ 511 }
+        requires room { vec_len self.old.lines + nodes_of (tree_at nodes.now root) ≤ 511 }
         requires slots { 1024 ≤ length slots.old }
-        ensures { Adds self.old self.new (computed twin.number (tree_at nodes.now root)) (nodesOf (tree_at nodes.now root)) }
+        ensures { Adds self.old self.new (computed twin.number (tree_at nodes.now root)) (nodes_of (tree_at nodes.now root)) }
     {
         let mut stack = Stack::new(slots);
         keep(&mut stack, Half::Whole(root, twin));

@@ -1,7 +1,7 @@
 // Why a text is not compiled: number, byte and the layer that found it.
 ghost use Rattle.std.specs.Prelude.{◌≡◌};
 ghost use Rattle.compiler.specs.declared.fault.CompileFault.TheVariants.{Read};
-ghost use Rattle.compiler.specs.Faults.{number as number_of, place as place_of, layer as layerOf};
+ghost use Rattle.compiler.specs.Faults.{number as number_of, place as place_of, layer as layer_of};
 
 use plan::fault::{Layer, ReadFault};
 
@@ -54,7 +54,7 @@ impl CompileFault {
 
     // The layer that found it.
     pub fn layer(self) -> Layer
-        ensures { result ≡ layerOf self }
+        ensures { result ≡ layer_of self }
     {
         match self {
             CompileFault::Read(fault) => fault.layer(),

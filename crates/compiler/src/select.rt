@@ -2,9 +2,9 @@
 ghost use Rattle.std.specs.Prelude.{◌≡◌, ◌+◌, ◌-◌, ◌*◌, ◌<◌, ◌≤◌, length, vec_len};
 ghost use Rattle.language.specs.Plans.{Plan};
 ghost use Rattle.plan.specs.Tables.{Closed};
-ghost use Rattle.translation.specs.Code.{set as setTwin, copy};
+ghost use Rattle.translation.specs.Code.{set as set_twin, copy};
 ghost use Rattle.translation.specs.Compile.{whole};
-ghost use Rattle.compiler.specs.Emitting.{Adds, one, zeros, opened, closed as closedBy, stated, lasts, Sound, next_counter};
+ghost use Rattle.compiler.specs.Emitting.{Adds, one, zeros, opened, closed as closed_by, stated, lasts, Sound, next_counter};
 ghost use Rattle.compiler.specs.Selecting.{Small, code_in};
 
 use crate::half::Half;
@@ -28,7 +28,7 @@ impl Lines {
     // The value of a REPEAT's count goes to its counter.
     fn count(&mut self, counter: Twin)
         requires { vec_len self.old.lines < 511 }
-        ensures { Adds self.old self.new (one (setTwin counter.number (copy 10))) 1 }
+        ensures { Adds self.old self.new (one (set_twin counter.number (copy 10))) 1 }
     {
         let value = Twin { number: VALUES };
         self.set(counter, Source::Copy(value));
@@ -56,7 +56,7 @@ impl Lines {
     fn end(&mut self, counter: Twin, body: u32)
         requires far { body + 4 ≤ 2 * vec_len self.old.lines }
         requires room { vec_len self.old.lines + 4 ≤ 511 }
-        ensures { Adds self.old self.new (closedBy counter.number (vec_len self.old.lines) body) 4 }
+        ensures { Adds self.old self.new (closed_by counter.number (vec_len self.old.lines) body) 4 }
     {
         let value = Twin { number: VALUES };
         let head = 2 * self.lines.len() as u32 - (body + 4);

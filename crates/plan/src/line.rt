@@ -1,6 +1,6 @@
 // Reading the lines of a plan.
 ghost use Rattle.std.specs.Prelude.{◌≡◌, ℕ, ◌<◌, [], length, IfOk, Some, OnOk};
-ghost use Rattle.grammar.proofs.Acceptor.{of_address, line as lineState, naming, want, nothing, same};
+ghost use Rattle.grammar.proofs.Acceptor.{of_address, line as line_state, naming, want, nothing, same};
 ghost use Rattle.grammar.specs.Begins.{next_byte};
 ghost use Rattle.stack.specs.Items.{items, room as slots};
 ghost use Rattle.plan.specs.Lining.{Simple, LineEnds, Names, Begun, ExpressionSays, Laid, Placed, StatementSays, CountSays, starts, LineTells};
@@ -127,7 +127,7 @@ impl Reader {
         ensures less { OnOk result (length (rest self.new) < length (rest self.old)) }
         ensures laid { IfOk result (λ s. Laid self.old self.new s) }
         ensures placed { IfOk result (λ s. Placed [] self.old self.new s) }
-        ensures says { StatementSays self.old self.new nesting.old.depth lineState result }
+        ensures says { StatementSays self.old self.new nesting.old.depth line_state result }
     {
         match mark {
             Mark::Let => {
