@@ -11,7 +11,7 @@ use crate::twin::Twin;
 use std::alloc::{AllocError, Global};
 
 impl Lines {
-    pub(crate) fn new(heap: Global) -> Result<Lines, AllocError> {
+    pub fn new(heap: Global) -> Result<Lines, AllocError> {
         let lines = Vec::with_capacity(heap, 512)?;
         Ok(Lines {
             lines,
@@ -20,7 +20,7 @@ impl Lines {
     }
 
     // No line, before the first block.
-    pub(crate) fn clear(&mut self)
+    pub fn clear(&mut self)
         ensures none { self.new.lines.items ≡ [] }
         ensures len { vec_len self.new.lines ≡ 0 }
         ensures entry { self.new.entry ≡ Start 0 }

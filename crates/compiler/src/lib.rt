@@ -4,17 +4,17 @@
 
 pub mod access;
 pub mod compile;
-mod double;
+pub mod double;
 mod emit;
 mod expression;
 pub mod fault;
-mod half;
+pub mod half;
 mod judge;
-mod line;
-mod lines;
+pub mod line;
+pub mod lines;
 mod select;
 pub mod tables;
-mod twin;
+pub mod twin;
 pub mod unique;
 mod width;
 mod write;
