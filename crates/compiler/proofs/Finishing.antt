@@ -1,5 +1,5 @@
 -- The module that the words are once its counts stand before it.
-use Rattle.std.proofs.Common.{◌≡◌, ℕ, ◌+◌, ◌-◌, ◌*◌, ◌/◌, ◌%◌, ◌<◌, ◌≤◌, List, [], map, length, get_or, take, sym, refl, ap, ◌∙◌, arith}
+use Rattle.std.proofs.Common.{◌≡◌, ℕ, ◌+◌, ◌-◌, ◌*◌, ◌/◌, ◌%◌, ◌<◌, ◌≤◌, List, map, length, get_or, take, sym, ap, ◌∙◌, arith}
 use Rattle.std.specs.List.{range_with_len}
 use Rattle.std.proofs.lemmas.List.FromFn.{fill_by_all}
 use Rattle.std.proofs.lemmas.List.{get_or-take, length-drop, length-take}
@@ -14,7 +14,7 @@ use Rattle.rules.specs.Words.{block_of, module_of}
 use Rattle.rules.proofs.Slots.{block_back}
 use Rattle.translation.specs.Written.{Written}
 use Rattle.compiler.specs.Laying.{words}
-use Rattle.compiler.specs.Stages.{Shows, Laid, missing}
+use Rattle.compiler.specs.Stages.{Laid, missing}
 
 module _ (n m : ℕ) (M : Module) (old f : ℕ → ℕ) (ws : List ℕ) (S : Laid n M old f m) (e : words ws ≡ replaced (replaced f 0 n) 1 m) where
   count_is : word (take (2 + 2 * n + 9 * m) ws) 0 ≡ n

@@ -1,5 +1,5 @@
 -- One line more of a module, and the whole of it.
-use Rattle.std.proofs.Common.{◌≡◌, ℕ, zero, suc, ◌+◌, ◌-◌, ◌*◌, ◌<◌, ◌≤◌, max, Bool, true, false, cond, ◌&&◌, List, [], ◌∷◌, map, length, get_or, drop, sym, refl, ap, ◌∙◌, subst, add-zero, arith}
+use Rattle.std.proofs.Common.{◌≡◌, ℕ, suc, ◌+◌, ◌-◌, ◌*◌, ◌<◌, ◌≤◌, List, [], ◌∷◌, length, get_or, drop, sym, refl, ap, ◌∙◌, subst, add-zero, arith}
 use Rattle.isa.specs.declared.kinds.Colour.{Colour}
 use Rattle.isa.specs.declared.kinds.Colour.TheVariants.{Green, Blue}
 use Rattle.isa.specs.declared.kinds.Register.{Register}
@@ -10,7 +10,6 @@ use Rattle.rules.specs.Cards.{Block}
 use Rattle.translation.specs.Code as over
 use Rattle.translation.proofs.Twins.{twice-is}
 use Rattle.compiler.specs.declared.twin.Twin.{Twin}
-use Rattle.compiler.specs.declared.line.Source.{Source}
 use Rattle.compiler.specs.declared.line.Source.TheVariants.{Number, Copy, Operation, Cell}
 use Rattle.compiler.specs.declared.line.Single.{Single}
 use Rattle.compiler.specs.declared.line.Single.TheVariants.{Set, Store, Jump, Branch}
@@ -19,8 +18,8 @@ use Rattle.compiler.specs.declared.line.Entry.TheVariants.{Inside, Start}
 use Rattle.compiler.specs.declared.line.Line.{Line}
 use Rattle.compiler.specs.Doubling.{twin_register, dye}
 use Rattle.compiler.specs.Laying.{placed, entered, lined, opens, Back}
-use Rattle.compiler.specs.Listing.{source_of, single_of, entry_of, code_of}
-use Rattle.std.proofs.lemmas.List.{length-drop, drop_more, drop_all, get_or_default}
+use Rattle.compiler.specs.Listing.{single_of, entry_of, code_of}
+use Rattle.std.proofs.lemmas.List.{length-drop, drop_more, drop_all}
 use Rattle.compiler.proofs.Forming.{formed}
 use Rattle.compiler.specs.Stages.{Good, Stage}
 use Rattle.compiler.proofs.Staging.{lay_kind, lay_block}

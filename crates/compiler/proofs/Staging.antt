@@ -1,14 +1,14 @@
 -- A module as far as its words are laid.
-use Rattle.std.proofs.Common.{◌≡◌, ℕ, zero, suc, ◌+◌, ◌-◌, ◌*◌, ◌/◌, ◌%◌, ◌<◌, ◌≤◌, Bool, true, false, cond, ◌&&◌, eqb, ltb, leb, ◌⊎◌, List, [], ◌∷◌, length, get_or, drop, sym, refl, ap, ◌∙◌, subst, inl, inr, arith}
-use Rattle.std.proofs.lemmas.Bool.{cases_eq, eq-eqb, ne_eqb, cond-true, cond-false, le-leb, lt-leb, lt-ltb, le-ltb, and_from, and_left, and_right}
+use Rattle.std.proofs.Common.{◌≡◌, ℕ, ◌+◌, ◌*◌, ◌/◌, ◌%◌, ◌<◌, ◌≤◌, true, ◌⊎◌, List, ◌∷◌, get_or, sym, refl, ap, ◌∙◌, subst, inl, inr, arith}
+use Rattle.std.proofs.lemmas.Bool.{cases_eq, eq-eqb, ne_eqb, cond-true, cond-false}
 use Rattle.isa.specs.Words.{kind_of, well_formed, first_word, second_word}
 use Rattle.isa.specs.Layout.{byte, slot_byte}
 use Rattle.memory.specs.Cells.{replaced}
 use Rattle.rules.specs.Notes.{Kind, halt}
 use Rattle.rules.specs.Cards.{Block, free}
 use Rattle.translation.specs.Cards.{card}
-use Rattle.compiler.specs.Laying.{placed, card_word, carded, blocked}
-use Rattle.compiler.specs.Stages.{kind_in, formed_in, Holds, start_in, byte_in, Shows, Good, Stage}
+use Rattle.compiler.specs.Laying.{placed, blocked}
+use Rattle.compiler.specs.Stages.{kind_in, formed_in, Holds, Shows, Good, Stage}
 use Rattle.compiler.proofs.Rests.{rest-front, rest_more, rest_below}
 use Rattle.compiler.proofs.Carding.{card-byte}
 use Rattle.compiler.proofs.Filling.{carded_below, carded_above, carded-at}

@@ -1,5 +1,5 @@
 -- Inner: the code over twins that a table of lines stands for.
-use Rattle.std.specs.Prelude.{ℕ, suc, List, [], ◌∷◌}
+use Rattle.std.specs.Prelude.{ℕ, List, [], ◌∷◌}
 use Rattle.compiler.specs.declared.line.Source.{Source}
 use Rattle.compiler.specs.declared.line.Source.TheVariants.{Number, Copy, Operation, Cell}
 use Rattle.compiler.specs.declared.line.Single.{Single}

@@ -1,4 +1,4 @@
-use Rattle.std.proofs.Common.{◌≡◌, ℕ, ◌+◌, ◌-◌, ◌*◌, ◌<◌, ◌≤◌, [], length, drop, sym, refl, ap, ◌∙◌, subst, arith, rules}
+use Rattle.std.proofs.Common.{◌≡◌, ℕ, ◌+◌, ◌-◌, ◌*◌, [], length, drop, sym, refl, ap, ◌∙◌, subst, arith}
 use Rattle.isa.specs.declared.kinds.Kind.TheVariants.{Halt}
 use Rattle.translation.specs.Code.{Code, doubled, blocks_from}
 use Rattle.compiler.specs.Laying.{words, opens, placed, entered, lined}

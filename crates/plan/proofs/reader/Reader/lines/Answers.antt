@@ -1,4 +1,4 @@
-use Rattle.std.proofs.Common.{◌≡◌, ◌-◌, ◌<◌, [], length, None, Ok, Err, sym, refl, ap, ◌∙◌, subst, arith, rules}
+use Rattle.std.proofs.Common.{◌≡◌, ◌<◌, [], length, None, Ok, Err, sym, refl, ap, ◌∙◌, subst, arith, rules}
 use Rattle.stack.specs.Items.{items}
 use Rattle.grammar.proofs.Acceptor.{line, plain, top}
 use Rattle.plan.specs.declared.fault.ReadFault.TheVariants as fault-is
