@@ -4,7 +4,7 @@ use mathlib.Core.Path.{fun_ext}
 use Rattle.std.proofs.lemmas.List.{drop_more}
 use Rattle.isa.specs.declared.kinds.Arithmetic.TheVariants.{Sub}
 use Rattle.language.specs.Limits.{nodes, width, widest, depth, Within, in_force}
-use Rattle.language.specs.Plans.{Plan, store}
+use Rattle.language.specs.Plans.{Plan}
 use Rattle.plan.specs.declared.tree.Node.{Node}
 use Rattle.plan.specs.declared.tree.Statement.{Statement}
 use Rattle.plan.specs.declared.tree.Statement.TheVariants.{End}

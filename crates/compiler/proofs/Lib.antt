@@ -1,6 +1,7 @@
 pub mod Rests
 pub mod Filling
 pub mod Carding
+pub mod Forming
 pub mod Staging
 pub mod Lining
 pub mod Finishing

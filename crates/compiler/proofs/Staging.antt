@@ -1,14 +1,14 @@
 -- A module as far as its words are laid.
-use Rattle.std.proofs.Common.{◌≡◌, ℕ, ◌+◌, ◌-◌, ◌*◌, ◌/◌, ◌%◌, ◌<◌, ◌≤◌, ◌⊎◌, List, ◌∷◌, get_or, sym, refl, ap, ◌∙◌, subst, inl, inr, arith}
+use Rattle.std.proofs.Common.{◌≡◌, ℕ, ◌+◌, ◌*◌, ◌/◌, ◌%◌, ◌<◌, ◌≤◌, true, ◌⊎◌, List, ◌∷◌, get_or, sym, refl, ap, ◌∙◌, subst, inl, inr, arith}
 use Rattle.std.proofs.lemmas.Bool.{cases_eq, eq-eqb, ne_eqb, cond-true, cond-false}
-use Rattle.isa.specs.Words.{first_word, second_word}
+use Rattle.isa.specs.Words.{kind_of, well_formed, first_word, second_word}
 use Rattle.isa.specs.Layout.{byte, slot_byte}
 use Rattle.memory.specs.Cells.{replaced}
 use Rattle.rules.specs.Notes.{Kind, halt}
 use Rattle.rules.specs.Cards.{Block, free}
 use Rattle.translation.specs.Cards.{card}
 use Rattle.compiler.specs.Laying.{placed, blocked}
-use Rattle.compiler.specs.Stages.{Holds, Shows, Stage}
+use Rattle.compiler.specs.Stages.{kind_in, formed_in, Holds, Shows, Good, Stage}
 use Rattle.compiler.proofs.Rests.{rest-front, rest_more, rest_below}
 use Rattle.compiler.proofs.Carding.{card-byte}
 use Rattle.compiler.proofs.Filling.{carded_below, carded_above, carded-at}
@@ -37,8 +37,15 @@ blocked_above f n b s t j h =
     carded_above (replaced f (2 + 2 * n + 9 * b) s) (3 + 2 * n + 9 * b) t 8 j (omega arith) ∙ cond-false _ _ _ (ne_eqb j (2 + 2 * n + 9 * b) (λ e. omega arith))
 
 -- what other words leave as it was
-kind_kept : (f g : ℕ → ℕ) (k : ℕ) → f (2 + 2 * k) ≡ g (2 + 2 * k) → f (2 + 2 * k + 1) ≡ g (2 + 2 * k + 1) → (x : Kind) → Holds f k x → Holds g k x
-kind_kept f g k a b x (e, w) = (sym a ∙ e, sym b ∙ w)
+kind_kept : (f g : ℕ → ℕ) (k : ℕ) → f (2 + 2 * k) ≡ g (2 + 2 * k) → f (2 + 2 * k + 1) ≡ g (2 + 2 * k + 1) → (x : Kind)
+    → (x ≡ kind_in f k) × (formed_in f k ≡ true) → (x ≡ kind_in g k) × (formed_in g k ≡ true)
+kind_kept f g k a b x (e, w) = (
+  e ∙ ap (λ u. kind_of u (f (2 + 2 * k + 1))) a ∙ ap (λ u. kind_of (g (2 + 2 * k)) u) b,
+  sym (ap (λ u. well_formed u (f (2 + 2 * k + 1))) a ∙ ap (λ u. well_formed (g (2 + 2 * k)) u) b) ∙ w,
+)
+
+held_kept : (f g : ℕ → ℕ) (k : ℕ) → f (2 + 2 * k) ≡ g (2 + 2 * k) → f (2 + 2 * k + 1) ≡ g (2 + 2 * k + 1) → (x : Kind) → Holds f k x → Holds g k x
+held_kept f g k a b x (e, w) = (sym a ∙ e, sym b ∙ w)
 
 shows_kept : (f g : ℕ → ℕ) (n c : ℕ) (B : Block) → ((j : ℕ) → 2 + 2 * n ≤ j → j < 2 + 2 * n + 9 * c + 9 → f j ≡ g j) → Shows f n c B → Shows g n c B
 shows_kept f g n c B h S = record {
@@ -48,11 +55,12 @@ shows_kept f g n c B h S = record {
 
 module _ (n : ℕ) (D : List Kind) (BS : List Block) (d : Block) (old : ℕ → ℕ) where
   -- an instruction more
-  pub lay_kind : (f : ℕ → ℕ) (p b : ℕ) (k : Kind) (ks : List Kind) (bs : List Block) → p < n
+  pub lay_kind : (f : ℕ → ℕ) (p b : ℕ) (k : Kind) (ks : List Kind) (bs : List Block) → Good k → p < n
       → Stage n D BS d old f p b (k ∷ ks) bs → Stage n D BS d old (placed f p k) (p + 1) b ks bs
-  lay_kind f p b k ks bs l S = record {
+  lay_kind f p b k ks bs G l S = record {
     code_left = rest_more p D k ks S.code_left;
     code = λ j h. go j h (cases_eq j p);
+    held = λ j h. hold j h (cases_eq j p);
     blocks_left = S.blocks_left;
     blocks = λ c h. shows_kept f (placed f p k) n c (get_or BS c d) (λ j x y. sym (placed_other f p k j (λ e. omega arith) (λ e. omega arith))) (S.blocks c h);
     kept = λ j h. placed_other f p k j (λ e. omega arith) (λ e. omega arith) ∙ S.kept j h;
@@ -61,13 +69,25 @@ module _ (n : ℕ) (D : List Kind) (BS : List Block) (d : Block) (old : ℕ → 
     long = let l = rest_below p D k ks S.code_left in omega arith;
   }
     where
-      this : Holds (placed f p k) p (get_or D p halt)
-      this =
+      this : (get_or D p halt ≡ kind_in (placed f p k) p) × (formed_in (placed f p k) p ≡ true)
+      this = (
+        rest-front p D halt k ks S.code_left ∙ sym G.back ∙ sym (ap (λ u. kind_of u (second_word k)) (placed_first f p k)) ∙ sym (ap (λ u. kind_of (placed f p k (2 + 2 * p)) u) (placed-second f p k)),
+        ap (λ u. well_formed (placed f p k (2 + 2 * p)) u) (placed-second f p k) ∙ ap (λ u. well_formed u (second_word k)) (placed_first f p k) ∙ G.formed,
+      )
+
+      these : Holds (placed f p k) p (get_or D p halt)
+      these =
           let e = sym (rest-front p D halt k ks S.code_left) in
           (placed_first f p k ∙ ap first_word e, placed-second f p k ∙ ap second_word e)
 
-      go : (j : ℕ) → j < p + 1 → (j ≡ p) ⊎ (j ≡ p → ⊥) → Holds (placed f p k) j (get_or D j halt)
-      go j h (inl e) = subst (λ x. Holds (placed f p k) x (get_or D x halt)) (sym e) this
+      hold : (j : ℕ) → j < p + 1 → (j ≡ p) ⊎ (j ≡ p → ⊥) → Holds (placed f p k) j (get_or D j halt)
+      hold j h (inl e) = subst (λ x. Holds (placed f p k) x (get_or D x halt)) (sym e) these
+      hold j h (inr e) =
+          held_kept f (placed f p k) j (sym (placed_other f p k (2 + 2 * j) (λ x. omega arith) (λ x. omega arith)))
+          (sym (placed_other f p k (2 + 2 * j + 1) (λ x. omega arith) (λ x. omega arith))) (get_or D j halt) (S.held j (omega arith))
+
+      go : (j : ℕ) → j < p + 1 → (j ≡ p) ⊎ (j ≡ p → ⊥) → (get_or D j halt ≡ kind_in (placed f p k) j) × (formed_in (placed f p k) j ≡ true)
+      go j h (inl e) = let P : ℕ → Type 0 = λ x. (get_or D x halt ≡ kind_in (placed f p k) x) × (formed_in (placed f p k) x ≡ true) in subst P (sym e) this
       go j h (inr e) =
           kind_kept f (placed f p k) j (sym (placed_other f p k (2 + 2 * j) (λ x. omega arith) (λ x. omega arith)))
           (sym (placed_other f p k (2 + 2 * j + 1) (λ x. omega arith) (λ x. omega arith))) (get_or D j halt) (S.code j (omega arith))
@@ -79,6 +99,8 @@ module _ (n : ℕ) (D : List Kind) (BS : List Block) (d : Block) (old : ℕ → 
     code_left = S.code_left;
     code = λ k h. let l = S.low in
         kind_kept f (blocked f n b s t) k (sym (blocked_below f n b s t (2 + 2 * k) (omega arith))) (sym (blocked_below f n b s t (2 + 2 * k + 1) (omega arith))) (get_or D k halt) (S.code k h);
+    held = λ k h. let l = S.low in
+        held_kept f (blocked f n b s t) k (sym (blocked_below f n b s t (2 + 2 * k) (omega arith))) (sym (blocked_below f n b s t (2 + 2 * k + 1) (omega arith))) (get_or D k halt) (S.held k h);
     blocks_left = rest_more b BS B bs S.blocks_left;
     blocks = λ c h. go c h (cases_eq c b);
     kept = λ j h. blocked_above f n b s t j (omega arith) ∙ S.kept j (omega arith);

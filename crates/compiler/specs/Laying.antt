@@ -1,7 +1,7 @@
 -- Inner: the words of a module as they are laid into an output, which is a word for each index.
-use Rattle.std.specs.Prelude.{ℕ, ◌+◌, ◌-◌, ◌*◌, ◌^◌, cond, ◌&&◌, List, nat_le, nat_lt, slice_index}
+use Rattle.std.specs.Prelude.{◌≡◌, ℕ, ◌+◌, ◌-◌, ◌*◌, ◌^◌, cond, ◌&&◌, List, nat_le, nat_lt, slice_index}
 use Rattle.isa.specs.declared.kinds.Kind.{Kind}
-use Rattle.isa.specs.Words.{first_word, second_word}
+use Rattle.isa.specs.Words.{kind_of, first_word, second_word}
 use Rattle.memory.specs.Cells.{replaced}
 use Rattle.compiler.specs.declared.line.Entry.{Entry}
 use Rattle.compiler.specs.declared.line.Entry.TheVariants.{Inside, Start}
@@ -42,3 +42,7 @@ opens (Start t) = 1
 -- line i: the block that it starts, if it does, and its two instructions
 abbrev pub lined : (ℕ → ℕ) → ℕ → ℕ → ℕ → Line → ℕ → ℕ
 lined f n b i l = placed (placed (entered f n b (2 * i) l.entry) (2 * i) (dye Green l.single)) (2 * i + 1) (dye Blue l.single)
+
+-- the words of an instruction are read back as it
+abbrev pub Back : Kind → Type 0
+Back k = kind_of (first_word k) (second_word k) ≡ k

@@ -1,5 +1,5 @@
 -- Inner: the code over twins that a table of lines stands for.
-use Rattle.std.specs.Prelude.{List, [], ◌∷◌}
+use Rattle.std.specs.Prelude.{ℕ, List, [], ◌∷◌}
 use Rattle.compiler.specs.declared.line.Source.{Source}
 use Rattle.compiler.specs.declared.line.Source.TheVariants.{Number, Copy, Operation, Cell}
 use Rattle.compiler.specs.declared.line.Single.{Single}
@@ -29,3 +29,13 @@ entry_of (Start n) = over.start n
 abbrev pub code_of : List Line → Entry → over.Code
 code_of [] x = over.stop (entry_of x)
 code_of (l ∷ ls) x = over.line (entry_of l.entry) (single_of l.single) (code_of ls x)
+
+-- 1 where a block starts
+abbrev pub opening : over.Entry → ℕ
+opening over.inside = 0
+opening (over.start n) = 1
+
+-- what stands before the first instruction
+abbrev pub front : over.Code → over.Entry
+front (over.stop x) = x
+front (over.line x i l) = x

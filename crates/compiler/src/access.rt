@@ -1,5 +1,5 @@
 // What may be seen of a compiler.
-ghost use Rattle.std.specs.Prelude.{◌≡◌};
+ghost use Rattle.std.specs.Prelude.{◌≡◌, ℕ, ◌<◌, ◌≤◌, vec_len, slice_index};
 
 use crate::tables::Compiler;
 use plan::tables::Plan;
@@ -12,8 +12,18 @@ impl Compiler {
         self.reader.plan()
     }
 
-    // The width of the widest expression of the plan that was compiled last.
+    // The largest width in the table of the nodes that were read last.
     pub fn widest(&self) -> u32
+        ensures { (k : ℕ) → k < vec_len self.now.widths → slice_index self.now.widths.items k ≤ result }
+    {
+        match self.widths.iter().copied().max() {
+            Some(widest) => widest,
+            None => 0,
+        }
+    }
+
+    // The width of the widest expression of the plan that was compiled last.
+    pub fn plan_width(&self) -> u32
         ensures { result ≡ self.now.widest }
     {
         self.widest

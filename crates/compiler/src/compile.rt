@@ -1,9 +1,10 @@
 // Compiling a text.
-ghost use Rattle.std.specs.Prelude.{◌≡◌, ◌≤◌, length, IfOk, vec_len};
+ghost use Rattle.std.specs.Prelude.{◌≡◌, ◌<◌, ◌≤◌, length, IfOk, Err, OnErr, vec_len};
 ghost use Rattle.language.specs.Plans.{Plan as Tree, done};
 ghost use Rattle.plan.specs.Reads.{Holds};
 ghost use Rattle.compiler.specs.Compiling.{Built, Compiles, Judges};
 ghost use Rattle.compiler.specs.Selecting.{Small};
+ghost use Rattle.compiler.specs.declared.fault.CompileFault.TheVariants.{LongText, ShortOutput};
 
 use crate::fault::CompileFault;
 use crate::half::Half;
@@ -46,7 +47,9 @@ impl Compiler {
     // The first fault of a text for an output of so many words: its length, the output's, what the
     // reader finds, the widths, and the size of the whole.
     fn judge(&mut self, text: &[u8], room: usize) -> Result<(), CompileFault>
-        ensures { Judges text.now room self.new.reader.plan self.new.widest result }
+        ensures judges { Judges text.now room self.new.reader.plan self.new.widest result }
+        ensures long { 8192 < length text.now → result ≡ Err LongText }
+        ensures short { length text.now ≤ 8192 → room < 2626 → result ≡ Err ShortOutput }
     {
         if too_long(text) {
             return Err(CompileFault::LongText);
@@ -84,7 +87,10 @@ impl Compiler {
     // Compiles a text: writes the words of a module to the output, leaves the rest of it, and answers
     // their number; or names the first fault, and writes nothing.
     pub fn compile(&mut self, text: &[u8], out: &mut [u32]) -> Result<usize, CompileFault>
-        ensures { Compiles text.now out.old out.new self.new.reader.plan self.new.widest result }
+        ensures compiles { Compiles text.now out.old out.new self.new.reader.plan self.new.widest result }
+        ensures kept { OnErr result (out.new ≡ out.old) }
+        ensures long { 8192 < length text.now → result ≡ Err LongText }
+        ensures short { length text.now ≤ 8192 → length out.old < 2626 → result ≡ Err ShortOutput }
     {
         self.judge(text, out.len())?;
         Ok(self.build(out))

@@ -1,12 +1,15 @@
 // The words of a module.
 ghost use Rattle.std.specs.Prelude.{◌≡◌, ℕ, ◌+◌, ◌*◌, ◌^◌, ◌<◌, ◌≤◌, length, take};
+ghost use Rattle.rules.specs.Words.{module_of};
 ghost use Rattle.translation.specs.Code.{build};
 ghost use Rattle.translation.specs.Written.{Written};
 ghost use Rattle.compiler.specs.Listing.{code_of};
 ghost use Rattle.compiler.specs.Stages.{Laid};
 ghost use Rattle.memory.specs.Cells.{replaced};
 ghost use Rattle.compiler.specs.Cards.{twin_bytes};
-ghost use Rattle.compiler.specs.Laying.{words, placed, carded, blocked, entered, lined, opens};
+ghost use Rattle.compiler.specs.Laying.{words, placed, carded, blocked, entered, lined, opens, Back};
+ghost use Rattle.compiler.specs.Doubling.{dye};
+ghost use Rattle.isa.specs.declared.kinds.Colour.TheVariants.{Green, Blue};
 
 use crate::double::half;
 use crate::line::{Entry, Line};
@@ -27,6 +30,7 @@ fn put_instruction(out: &mut [u32], place: u32, instruction: Instruction)
     requires room { 2626 ≤ length out.old }
     ensures len { length out.new ≡ length out.old }
     ensures words { words out.new ≡ placed (words out.old) place instruction.kind }
+    ensures back { Back instruction.kind }
 {
     let (first, second) = encode(instruction);
     let at = 2 + 2 * place as usize;
@@ -105,6 +109,8 @@ fn put_line(out: &mut [u32], instructions: u32, blocks: u32, at: usize, line: Li
     ensures count { result ≡ blocks + opens line.entry }
     ensures len { length out.new ≡ length out.old }
     ensures words { words out.new ≡ lined (words out.old) instructions blocks at line }
+    ensures green { Back (dye Green line.single) }
+    ensures blue { Back (dye Blue line.single) }
 {
     let place = 2 * at as u32;
     let count = put_entry(out, instructions, blocks, place, line.entry);
@@ -140,6 +146,7 @@ pub fn write_module(out: &mut [u32], lines: &[Line], behind: Entry) -> usize
     requires room { 2626 ≤ length out.old }
     ensures len { length out.new ≡ length out.old }
     ensures count { result ≡ 2 + 2 * (2 * length lines.now + 1) + 9 * length (build (code_of lines.now behind)).blocks }
+    ensures reads { module_of (take result out.new) ≡ build (code_of lines.now behind) }
     ensures written { Written (take result out.new) (build (code_of lines.now behind)) }
     ensures rest { (j : ℕ) → result ≤ j → words out.new j ≡ words out.old j }
 {

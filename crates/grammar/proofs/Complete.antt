@@ -1,16 +1,14 @@
 -- What the grammar derives, the acceptor reads, and then it has the tree in hand.
-use mathlib.Core.Path.{◌≡◌, refl, sym, ap, subst, ◌∙◌}
+use mathlib.Core.Path.{◌≡◌, refl, sym, ap, ◌∙◌}
 use mathlib.Core.List.{List, [], ◌∷◌, ◌++◌}
-use Prim.Native.Nat.{ℕ}
 use Rattle.isa.specs.declared.kinds.Arithmetic.{Arithmetic}
 use Rattle.isa.specs.declared.kinds.Arithmetic.TheVariants.{Add, Sub, Mul, Lt}
-use Rattle.grammar.specs.declared.mark.Bracket.{Bracket}
 use Rattle.grammar.specs.declared.mark.Bracket.TheVariants.{Round, Square}
 use Rattle.grammar.specs.declared.mark.Mark.{Mark}
 use Rattle.grammar.specs.declared.mark.Mark.TheVariants.{Let, Put, Repeat, End, LineEnd, Number, Variable, Operator, Open, Close, Comma, Equals}
-use Rattle.language.specs.Plans.{Tree, number, variable, cell, node, Plan, done, assign, store, again}
+use Rattle.language.specs.Plans.{Tree, node, Plan, done, assign, store, again}
 use Rattle.grammar.specs.Grammar.{Level, expr_level, sum_level, term_level, factor_level, Derives, a_number, a_variable, in_parens, in_brackets, one_factor, times, one_term, plus, minus, one_sum, less, Lines, no_line, blank_line, let_line, put_line, repeat_lines, IsPlan}
-use Rattle.grammar.proofs.Acceptor.{same, plain, Base, top, body, Left, nothing, below, Hole, of_let, of_address, of_value, of_count, inside, State, line, naming, named, over, want, have, full, Move, stuck, to, add, value, bracketed, begin, ending, lined, parted, closed, join, at-line, at_naming, at_named, at-over, at_want, at_full, at_have, step, then, run, start}
+use Rattle.grammar.proofs.Acceptor.{same, plain, Base, top, body, Left, nothing, below, Hole, of_let, of_address, of_value, of_count, inside, line, want, have, full, to, add, value, at_full, at_have, then, run, start}
 
 -- P of the operator, if the mark is one
 abbrev pub IfOp : (Arithmetic → Type 0) → Mark → Type 0

@@ -2,24 +2,19 @@
 use mathlib.Core.Path.{◌≡◌, refl, sym, ap, subst, ◌∙◌}
 use mathlib.Core.List.{List, [], ◌∷◌, ◌++◌}
 use Prim.Native.Nat.{ℕ}
-use Rattle.isa.specs.declared.kinds.Arithmetic.{Arithmetic}
-use Rattle.isa.specs.declared.kinds.Arithmetic.TheVariants.{Add, Sub, Mul, Lt}
-use Rattle.grammar.specs.declared.mark.Bracket.{Bracket}
-use Rattle.grammar.specs.declared.mark.Bracket.TheVariants.{Round, Square}
 use Rattle.grammar.specs.declared.mark.Mark.{Mark}
-use Rattle.grammar.specs.declared.mark.Mark.TheVariants.{Let, Put, Repeat, End, LineEnd, Number, Variable, Operator, Open, Close, Comma, Equals}
-use Rattle.language.specs.Plans.{Tree, number, variable, cell, node, Plan, done, assign, store, again}
-use Rattle.grammar.specs.Grammar.{Level, expr_level, sum_level, term_level, factor_level, Derives, a_number, a_variable, in_parens, in_brackets, one_factor, times, one_term, plus, minus, one_sum, less, Lines, no_line, blank_line, let_line, put_line, repeat_lines, IsPlan}
-use Rattle.grammar.proofs.Acceptor.{same, plain, Base, top, body, Left, nothing, below, Hole, of_let, of_address, of_value, of_count, inside, State, line, naming, named, over, want, have, full, Move, stuck, to, add, value, bracketed, begin, ending, lined, parted, closed, join, at-line, at_naming, at_named, at-over, at_want, at_full, at_have, step, then, run, start}
+use Rattle.grammar.specs.declared.mark.Mark.TheVariants.{LineEnd}
+use Rattle.language.specs.Plans.{Plan, done}
+use Rattle.grammar.proofs.Acceptor.{Base, top, body, State, line, naming, named, over, want, have, full, Move, stuck, to, step, then, run, start}
 use mathlib.Core.Bool.{Bool, true, false}
 use mathlib.Core.List.{append_assoc, append-nil}
 use native.Mathlib.Omega.{arith}
 use lib.Dec.{T}
 use Rattle.grammar.specs.declared.mark.Placed.{Placed}
-use Rattle.grammar.specs.Verdict.{Viable, Depth, level, after, room, depth, Within, Stands, marks, Ending, text_end, strange, Judgement, plan, fault, Judged, accepted, strange_mark, bad_mark, bad_end, too_deep, Decided}
+use Rattle.grammar.specs.Verdict.{Depth, level, after, room, depth, Within, Stands, marks, Ending, text_end, strange, Judgement, plan, fault, Judged, accepted, strange_mark, bad_mark, bad_end, too_deep, Decided}
 use Rattle.grammar.proofs.Complete.{both, both_done, plan_read}
 use Rattle.grammar.proofs.Sound.{plan_derived}
-use Rattle.grammar.proofs.Viability.{never, same-state, run-append, run_on, moved, Reaches, viable_from, viable_to}
+use Rattle.grammar.proofs.Viability.{never, same-state, run_on, moved, viable_from, viable_to}
 
 pub data Result : Type 0 where
   no : Result

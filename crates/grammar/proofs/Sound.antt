@@ -1,7 +1,6 @@
 -- What the acceptor accepts, the grammar derives.
-use mathlib.Core.Path.{◌≡◌, refl, sym, ap, subst, ◌∙◌}
+use mathlib.Core.Path.{◌≡◌, refl, subst}
 use mathlib.Core.List.{List, [], ◌∷◌, ◌++◌}
-use Prim.Native.Nat.{ℕ}
 use Rattle.isa.specs.declared.kinds.Arithmetic.{Arithmetic}
 use Rattle.isa.specs.declared.kinds.Arithmetic.TheVariants.{Add, Sub, Mul, Lt}
 use Rattle.grammar.specs.declared.mark.Bracket.{Bracket}
@@ -9,9 +8,9 @@ use Rattle.grammar.specs.declared.mark.Bracket.TheVariants.{Round, Square}
 use Rattle.grammar.specs.declared.mark.Mark.{Mark}
 use Rattle.grammar.specs.declared.mark.Mark.TheVariants.{Let, Put, Repeat, End, LineEnd, Number, Variable, Operator, Open, Close, Comma, Equals}
 use Rattle.grammar.specs.declared.variable.Variable.{Variable as Letter}
-use Rattle.language.specs.Plans.{Tree, number, variable, cell, node, Plan, done, assign, store, again}
-use Rattle.grammar.specs.Grammar.{Level, expr_level, sum_level, term_level, factor_level, Derives, a_number, a_variable, in_parens, in_brackets, one_factor, times, one_term, plus, minus, one_sum, less, Lines, no_line, blank_line, let_line, put_line, repeat_lines, IsPlan}
-use Rattle.grammar.proofs.Acceptor.{same, plain, Base, top, body, Left, nothing, below, Hole, of_let, of_address, of_value, of_count, inside, State, line, naming, named, over, want, have, full, Move, stuck, to, add, value, bracketed, begin, ending, lined, parted, closed, join, at-line, at_naming, at_named, at-over, at_want, at_full, at_have, step, then, run, start}
+use Rattle.language.specs.Plans.{Tree, number, variable, node, Plan, done, assign, store, again}
+use Rattle.grammar.specs.Grammar.{expr_level, sum_level, term_level, factor_level, Derives, a_number, a_variable, in_parens, in_brackets, one_factor, times, one_term, plus, minus, one_sum, less, Lines, no_line, blank_line, let_line, put_line, repeat_lines, IsPlan}
+use Rattle.grammar.proofs.Acceptor.{plain, Base, top, body, Left, nothing, below, Hole, of_let, of_address, of_value, of_count, inside, State, line, naming, named, over, want, have, full, Move, stuck, to, add, value, bracketed, begin, ending, lined, parted, closed, join, at-line, at_naming, at_named, at-over, at_want, at_full, at_have, step, then, run, start}
 
 boxed : (b : Bracket) {s r : List Mark} {t : Tree} → Derives expr_level s (Close b ∷ r) t → Derives factor_level (Open b ∷ s) r (bracketed b t)
 boxed Round d = in_parens d

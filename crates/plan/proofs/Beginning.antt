@@ -1,5 +1,5 @@
 -- Where expressions begin, mark by mark.
-use Rattle.std.proofs.Common.{◌≡◌, ℕ, zero, suc, ◌+◌, ◌<◌, false, cond, List, [], ◌∷◌, ◌++◌, length, get_or, set, IfOk, None, Ok, Err, vec_items, Result, sym, refl, ap, ◌∙◌, append_assoc, append-nil, arith}
+use Rattle.std.proofs.Common.{◌≡◌, ℕ, zero, suc, ◌<◌, false, cond, List, [], ◌∷◌, ◌++◌, length, get_or, set, IfOk, None, Ok, Err, vec_items, Result, sym, refl, ap, ◌∙◌, append_assoc, append-nil, arith}
 use Rattle.language.specs.Limits.{nodes}
 use Rattle.language.specs.Plans.{Tree, number, variable, cell, node}
 use Rattle.grammar.specs.Begins.{leads, next_byte, begins}

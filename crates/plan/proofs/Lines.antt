@@ -1,5 +1,5 @@
 -- The marks of a line, one by one.
-use Rattle.std.proofs.Common.{◌≡◌, ℕ, suc, pred, ◌+◌, ◌-◌, ◌<◌, ◌≤◌, false, T, List, [], ◌∷◌, length, IsErrAnd, Some, None, Ok, Err, Result as Res, sym, refl, ap, ◌∙◌, subst, arith, ltb→lt, lt→ltb}
+use Rattle.std.proofs.Common.{◌≡◌, ℕ, suc, pred, ◌+◌, ◌<◌, ◌≤◌, false, List, [], ◌∷◌, length, IsErrAnd, Some, None, Ok, Err, Result as Res, sym, refl, ap, ◌∙◌, subst, arith, ltb→lt, lt→ltb}
 use Rattle.language.specs.Plans.{Tree, Plan, done, assign, store, again}
 use Rattle.grammar.specs.declared.mark.Bracket.TheVariants.{Round, Square}
 use Rattle.grammar.specs.declared.mark.Mark.{Mark}

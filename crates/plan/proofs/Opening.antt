@@ -28,7 +28,7 @@ made_all (Ok x) P h = h
 made_all (Err y) P h = tt
 
 -- a line that was laid, or a fault on its way
-pub onward-goes : {a b : Reader} → Goes a b → Onward a b
+pub onward-goes : {a b : Reader} → Goes a b → Onward 0 a b
 onward-goes {a} {b} g = record {
   forth = g.forth;
   room = g.room;
@@ -39,7 +39,7 @@ onward-goes {a} {b} g = record {
 }
 
 pub onward_laid : {a b c : Reader} → Goes a b → length (rest b) < length (rest a) → c.marks ≡ b.marks → rest c ≡ rest b → c.plan.nodes ≡ b.plan.nodes →
-    vec_len c.plan.statements ≡ vec_len b.plan.statements + 1 → b.plan.own ≤ c.plan.own → Onward a c
+    vec_len c.plan.statements ≡ vec_len b.plan.statements + 1 → b.plan.own ≤ c.plan.own → Onward 0 a c
 onward_laid {a} {b} {c} g l m r n s o =
     let k : vec_len c.plan.nodes ≡ vec_len b.plan.nodes = ap vec_len n in
     record {

@@ -8,7 +8,7 @@ use Rattle.grammar.specs.declared.mark.Mark.{Mark}
 use Rattle.grammar.specs.declared.mark.Mark.TheVariants.{Let, Put, Repeat, End, LineEnd, Number, Variable, Operator, Open, Close, Comma, Equals}
 use Rattle.language.specs.Plans.{Tree, number}
 use Rattle.grammar.specs.declared.mark.Placed.{Placed}
-use Rattle.grammar.specs.Verdict.{after, room, Judgement, plan, fault, Ending, text_end, strange}
+use Rattle.grammar.specs.Verdict.{after, room, Judgement, fault, Ending, text_end, strange}
 use Rattle.grammar.proofs.Acceptor.{Left, nothing, below, Hole, inside, State, want, have, full, Move, stuck, to, step, same, bracketed, value, at_have, at_full}
 use Rattle.grammar.proofs.Complete.{IfOp, settle_step}
 use Rattle.grammar.proofs.Judge.{Result, result, verdict, turn, judge}

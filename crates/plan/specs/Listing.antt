@@ -1,5 +1,5 @@
 -- What the tables of a plan stand for: what must be believed of them, with Trees, Tables and Plans.
-use Rattle.std.specs.Prelude.{◌≡◌, ℕ, ◌+◌, ◌<◌, List, [], ◌∷◌, ◌++◌, length}
+use Rattle.std.specs.Prelude.{◌≡◌, ℕ, ◌<◌, List, [], ◌∷◌, ◌++◌, length}
 use Rattle.language.specs.Limits.{needs}
 use Rattle.language.specs.Plans.{Tree, Plan, done, assign, store, again}
 use Rattle.grammar.specs.declared.variable.Variable.{Variable}

@@ -268,14 +268,19 @@ NoFactor mark.Equals = Unit {0}
 
 -- there is a place for a node and for a statement for each mark that is left
 pub record Rooms (r : Reader) : Type 0 where
-  pub room : Room r
+  pub nodes : Room r
   pub statements : vec_len r.plan.statements + length (rest r) ≤ 8192
 
--- what a line keeps
-pub record Onward (a b : Reader) : Type 0 where
+-- .. for a statement more
+pub record Spare (r : Reader) : Type 0 where
+  pub nodes : Room r
+  pub statements : vec_len r.plan.statements + length (rest r) < 8192
+
+-- what a line keeps; n statements are made behind its first mark
+pub record Onward (n : ℕ) (a b : Reader) : Type 0 where
   pub forth : length (rest b) ≤ length (rest a)
   pub room : vec_len b.plan.nodes + length (rest b) ≤ vec_len a.plan.nodes + length (rest a)
-  pub lines : vec_len b.plan.statements + length (rest b) ≤ vec_len a.plan.statements + length (rest a)
+  pub lines : vec_len b.plan.statements + length (rest b) ≤ n + vec_len a.plan.statements + length (rest a)
   pub longer : vec_len a.plan.statements ≤ vec_len b.plan.statements
   pub dearer : spent a.plan ≤ spent b.plan
   pub marks : b.marks ≡ a.marks

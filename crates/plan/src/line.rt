@@ -153,7 +153,7 @@ impl Reader {
         requires opened { Opened self.old.plan (items repeats.old) }
         requires slots { slots repeats.old ≡ 4 }
         ensures depth { nesting.new.depth ≡ nesting.old.depth }
-        ensures onward { Onward self.old self.new }
+        ensures onward { Onward 0 self.old self.new }
         ensures less { OnOk result (length (rest self.new) < length (rest self.old)) }
         ensures starts { OnOk result (starts self.new ≡ starts self.old) }
         ensures opened { Opened self.new.plan (items repeats.new) }
@@ -176,7 +176,7 @@ impl Reader {
         requires seen { Some Mark.End ≡ first (rest self.old) }
         requires opened { Opened self.old.plan (items repeats.old) }
         requires slots { slots repeats.old ≡ 4 }
-        ensures onward { Onward self.old self.new }
+        ensures onward { Onward 0 self.old self.new }
         ensures less { OnOk result (length (rest self.new) < length (rest self.old)) }
         ensures starts { OnOk result (starts self.new ≡ starts self.old) }
         ensures opened { Opened self.new.plan (items repeats.new) }
@@ -204,7 +204,7 @@ impl Reader {
         requires opened { Opened self.old.plan (items repeats.old) }
         requires slots { slots repeats.old ≡ 4 }
         ensures depth { nesting.new.depth ≡ nesting.old.depth }
-        ensures onward { Onward self.old self.new }
+        ensures onward { Onward 0 self.old self.new }
         ensures less { OnOk result (length (rest self.new) < length (rest self.old)) }
         ensures starts { OnOk result (starts self.new ≡ starts self.old) }
         ensures opened { Opened self.new.plan (items repeats.new) }

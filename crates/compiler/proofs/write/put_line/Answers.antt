@@ -17,4 +17,6 @@ returns c =
           ∙ ap (λ g. placed g (2 * at + 1) c.half-2.result.kind) (c.put_instruction.ensures.words ∙ ap (λ g. placed g (2 * at) k) c.put_entry-count.ensures.words)
           ∙ ap (λ x. placed (placed f (2 * at) k) (2 * at + 1) x) c.half-2.ensures
           ∙ ap (λ x. placed (placed f (2 * at) x) (2 * at + 1) (dye Blue c.args.line.single)) c.half.ensures;
+      green = search rules;
+      blue = search rules;
     }

@@ -3,7 +3,7 @@ use Rattle.memory.specs.Cells.{replaced}
 use Rattle.translation.specs.Code.{build}
 use Rattle.compiler.specs.Laying.{words}
 use Rattle.compiler.specs.Listing.{code_of}
-use Rattle.compiler.proofs.Finishing.{written, rest_is, blocks_length}
+use Rattle.compiler.proofs.Finishing.{module_is, written, rest_is, blocks_length}
 use Rattle.compiler.proofs.write.write_module.Goals as goal
 
 pub returns : goal.returns
@@ -19,6 +19,7 @@ returns c =
     record {
       len = c.put-2.ensures.len ∙ c.put.ensures.len ∙ c.put_code-blocks.ensures.len;
       count = ap (λ k. 2 + 2 * n + 9 * k) (blocks_length n m M old f ws S e);
+      reads = module_is n m M old f ws S e;
       written = written n m M old f ws S e (omega (arith, blocks_length n m M old f ws S e, c.requires.short, c.requires.few, c.requires.room, c.put-2.ensures.len, c.put.ensures.len, c.put_code-blocks.ensures.len));
       rest = rest_is n m M old f ws S e;
     }

@@ -1,4 +1,4 @@
-use Rattle.std.proofs.Common.{ℕ, ◌-◌, ap}
+use Rattle.std.proofs.Common.{ℕ, ap}
 use Rattle.compiler.specs.Emitting.{Coming, closed}
 use Rattle.compiler.proofs.Adding.{adds_then, adds_same}
 use Rattle.compiler.proofs.lines.Lines.end.Goals as goal

@@ -1,7 +1,5 @@
 use Rattle.std.proofs.Common.{◌≡◌, List, [], ◌∷◌, ◌++◌, sym, ap, ◌∙◌, subst, arith}
-use Rattle.language.specs.Limits.{nodes}
 use Rattle.stack.specs.Items.{items}
-use Rattle.plan.specs.Trees.{tree_at}
 use Rattle.compiler.specs.declared.half.Half.{Half}
 use Rattle.compiler.specs.declared.half.Half.TheVariants.{Whole}
 use Rattle.compiler.specs.Emitting.{Adds}

@@ -5,12 +5,12 @@ use Rattle.compiler.proofs.tables.Compiler.compile.Goals as goal
 
 pub build-requires : goal.build-requires
 build-requires c =
-    let r = c.in_ok-judge.ensures in
+    let r = c.in_ok-judge.ensures.judges in
     record { small = (r.plan, record { lists = r.taken.holds.lists; within = r.within }); room = r.roomy }
 
-pub returns : goal.returns
-returns c =
-    let r = c.in_ok-judge.ensures in
+pub returns-clause-compiles : goal.returns-clause-compiles
+returns-clause-compiles c =
+    let r = c.in_ok-judge.ensures.judges in
     let m = c.judge.new.self.widest in
     let P : Reader → Type 0 = λ x. Taken c.args.text.now (length c.args.out.now) x.plan m r.plan in
     let Q : ℕ → Type 0 = λ x. Taken c.args.text.now (length c.args.out.now) c.build.new.self.reader.plan x r.plan in

@@ -12,21 +12,21 @@ use Rattle.compiler.specs.Widths.{first_wide, widest_of}
 use Rattle.compiler.proofs.Judging.{unread-is, Seen, seen, wide_verdict, large_verdict, fine_verdict}
 use Rattle.compiler.proofs.tables.Compiler.judge.Goals as goal
 
-pub returns-then-too_long : goal.returns-then-too_long
-returns-then-too_long c = long_text (ltb-true 8192 (length c.args.text.now) (sym c.if-too_long.ensures))
+pub returns-then-too_long-clause-judges : goal.returns-then-too_long-clause-judges
+returns-then-too_long-clause-judges c = long_text (ltb-true 8192 (length c.args.text.now) (sym c.if-too_long.ensures))
 
-pub returns-then-too_short : goal.returns-then-too_short
-returns-then-too_short c = short_output (ltb-false 8192 (length c.args.text.now) (sym c.if-too_long.ensures)) (ltb-true c.args.room 2626 (sym c.if-too_short.ensures))
+pub returns-then-too_short-clause-judges : goal.returns-then-too_short-clause-judges
+returns-then-too_short-clause-judges c = short_output (ltb-false 8192 (length c.args.text.now) (sym c.if-too_long.ensures)) (ltb-true c.args.room 2626 (sym c.if-too_short.ensures))
 
-pub returns-in_err-read : goal.returns-in_err-read
-returns-in_err-read c =
+pub returns-in_err-read-clause-judges : goal.returns-in_err-read-clause-judges
+returns-in_err-read-clause-judges c =
     let p = err_from_is_err_and c.from_residual.result c.from_residual.ensures.1 in
     let h = unread-is c.args.text.now c.args.room c.in_err-read.field-0.0 (ltb-false 8192 (length c.args.text.now) (sym c.if-too_long.ensures)) (ltb-false c.args.room 2626 (sym c.if-too_short.ensures)) c.in_err-read.ensures.0 in
     let P : CompileFault → Type 0 = λ e. Decided c.args.text.now c.args.room (refused (number e) (place e) (layer e)) in
     subst (Judges c.args.text.now c.args.room c.read.new.self.plan c.args.self.now.widest) (sym p.1) (subst P (sym p.2) h)
 
-pub returns-in-Some : goal.returns-in-Some
-returns-in-Some c =
+pub returns-in-Some-clause-judges : goal.returns-in-Some-clause-judges
+returns-in-Some-clause-judges c =
     let t = c.read.new.self.plan in
     let ws = c.as_slice.result.now in
     let S : Seen c.args.text.now c.args.room t ws = seen (ltb-false 8192 (length c.args.text.now) (sym c.if-too_long.ensures)) (ltb-false c.args.room 2626 (sym c.if-too_short.ensures)) c.in_ok-read.ensures c.plan-plan.ensures c.nodes.ensures
@@ -35,8 +35,8 @@ returns-in-Some c =
     ap (λ l. first_wide ws (all_parts l)) (c.statements.ensures ∙ ap (λ x. vec_items x.statements) c.plan-plan.ensures) in
     wide_verdict c.args.text.now c.args.room t ws S c.in-Some.place (sym parts_is ∙ sym c.first_wide.ensures ∙ c.in-Some.is)
 
-pub returns-then-too_large : goal.returns-then-too_large
-returns-then-too_large c =
+pub returns-then-too_large-clause-judges : goal.returns-then-too_large-clause-judges
+returns-then-too_large-clause-judges c =
     let t = c.read.new.self.plan in
     let ws = c.as_slice.result.now in
     let S : Seen c.args.text.now c.args.room t ws = seen (ltb-false 8192 (length c.args.text.now) (sym c.if-too_long.ensures)) (ltb-false c.args.room 2626 (sym c.if-too_short.ensures)) c.in_ok-read.ensures c.plan-plan.ensures c.nodes.ensures
@@ -46,8 +46,8 @@ returns-then-too_large c =
     let P : Tables → Type 0 = λ x. (ltb 1024 (needed x) || ltb 31 x.repeats) ≡ true in
     large_verdict c.args.text.now c.args.room t ws S (sym parts_is ∙ sym c.first_wide.ensures ∙ c.in_default.is) (subst P c.plan-plan.ensures (sym c.if-too_large.ensures))
 
-pub returns : goal.returns
-returns c =
+pub returns-clause-judges : goal.returns-clause-judges
+returns-clause-judges c =
     let t = c.read.new.self.plan in
     let ws = c.as_slice.result.now in
     let S : Seen c.args.text.now c.args.room t ws = seen (ltb-false 8192 (length c.args.text.now) (sym c.if-too_long.ensures)) (ltb-false c.args.room 2626 (sym c.if-too_short.ensures)) c.in_ok-read.ensures c.plan-plan.ensures c.nodes.ensures

@@ -1,7 +1,6 @@
 use Rattle.std.proofs.Common.{◌≡◌, suc, Some, None, Ok, Err, vec_len, sym, refl, ap, ◌∙◌, subst, arith, rules}
 use Rattle.std.proofs.lemmas.Bool.{leb-true, leb-false}
 use Rattle.isa.specs.declared.kinds.Arithmetic.TheVariants.{Mul, Lt}
-use Rattle.language.specs.Limits.{nodes}
 use Rattle.grammar.specs.declared.mark.Mark.TheVariants.{Number, Variable, Operator, Open}
 use Rattle.grammar.proofs.Acceptor.{nothing, same, want}
 use Rattle.plan.specs.Reading.{rest, first, operator, StopsAt, not_star, only_less, NoFactor, FactorSays, TermSays, SumSays, ExprSays}

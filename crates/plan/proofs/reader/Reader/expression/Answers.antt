@@ -1,4 +1,4 @@
-use Rattle.std.proofs.Common.{◌≡◌, ◌-◌, Err, sym, refl, ◌∙◌}
+use Rattle.std.proofs.Common.{◌≡◌, Err, sym, refl, ◌∙◌}
 use Rattle.plan.specs.declared.fault.ReadFault.TheVariants as fault-is
 use Rattle.plan.specs.Reading.{rest, place_of}
 use Rattle.plan.proofs.Beginning.{place_is}

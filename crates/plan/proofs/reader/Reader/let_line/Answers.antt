@@ -1,8 +1,7 @@
-use Rattle.std.proofs.Common.{◌-◌, vec_len, sym, refl, ap, ◌∙◌, arith, rules}
+use Rattle.std.proofs.Common.{vec_len, sym, refl, ap, ◌∙◌, arith, rules}
 use Rattle.language.specs.Limits.{nodes}
 use Rattle.language.specs.Plans.{assign}
 use Rattle.grammar.proofs.Acceptor.{of_let, full, line, named, want, nothing, same, add}
-use Rattle.plan.specs.declared.fault.ReadFault.TheVariants as fault-is
 use Rattle.plan.specs.Reading.{tree_in, ask}
 use Rattle.plan.proofs.Beginning.{let_placed}
 use Rattle.plan.proofs.Steps.{goes_then, by_err, err_made, err_tell}

@@ -1,12 +1,9 @@
-use Rattle.std.proofs.Common.{◌-◌, ◌≤◌, length, vec_items, sym, refl, ◌∙◌, subst, arith, rules}
-use Rattle.language.specs.Limits.{nodes}
+use Rattle.std.proofs.Common.{◌≤◌, length, vec_items, sym, refl, ◌∙◌, subst, arith, rules}
 use Rattle.stack.specs.Items.{items}
 use Rattle.grammar.specs.declared.mark.Mark.TheVariants.{LineEnd}
 use Rattle.grammar.proofs.Acceptor.{add}
-use Rattle.plan.specs.declared.fault.ReadFault.TheVariants as fault-is
 use Rattle.plan.specs.declared.reader.Reader.{Reader}
 use Rattle.plan.specs.Plans.{spent}
-use Rattle.plan.specs.Reading.{rest}
 use Rattle.plan.proofs.Beginning.{quiet_skip, same-starts, laid_starts}
 use Rattle.plan.proofs.Steps.{Skip, goes_skip, shorter, by_err, err_made}
 use Rattle.plan.proofs.Lines.{blank_passed, told_err}

@@ -1,4 +1,4 @@
-use Rattle.std.proofs.Common.{◌≡◌, ◌-◌, Some, None, Err, sym, refl, ◌∙◌, subst, rules}
+use Rattle.std.proofs.Common.{◌≡◌, Some, None, Err, sym, refl, ◌∙◌, subst, rules}
 use Rattle.grammar.specs.declared.mark.Mark.TheVariants.{LineEnd}
 use Rattle.plan.specs.declared.fault.ReadFault.TheVariants as fault-is
 use Rattle.plan.specs.Reading.{rest, first, place_of}

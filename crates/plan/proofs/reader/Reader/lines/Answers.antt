@@ -1,4 +1,4 @@
-use Rattle.std.proofs.Common.{◌≡◌, ◌-◌, ◌<◌, [], length, None, Ok, Err, sym, refl, ap, ◌∙◌, subst, arith, rules}
+use Rattle.std.proofs.Common.{◌≡◌, ◌<◌, [], length, None, Ok, Err, sym, refl, ap, ◌∙◌, subst, arith, rules}
 use Rattle.stack.specs.Items.{items}
 use Rattle.grammar.proofs.Acceptor.{line, plain, top}
 use Rattle.plan.specs.declared.fault.ReadFault.TheVariants as fault-is
@@ -25,7 +25,7 @@ loop-mark-preserved c =
     let t = r.says inv.4.0 inv.4.1 in
     let os = items c.loop-mark.repeats in
     let qs = items c.line.new.repeats in
-    let rooms : Rooms c.line.new.self = record { room = omega (arith, inv.1.room, r.onward.room); statements = omega (arith, inv.1.statements, r.onward.lines) } in
+    let rooms : Rooms c.line.new.self = record { nodes = omega (arith, inv.1.nodes, r.onward.room); statements = omega (arith, inv.1.statements, r.onward.lines) } in
     (r.depth ∙ inv.0, rooms, r.opened, r.slots, (t.0, t.1, inv.4.2 ∙ subst (λ n. ask c.loop-mark.self n (length os) (line inv.4.0) ≡ ask c.line.new.self n (length qs) (line t.0)) d t.2), r.starts ∙ inv.5)
 
 pub returns : goal.returns

@@ -1,7 +1,6 @@
-use Rattle.std.proofs.Common.{◌≡◌, ◌-◌, Some, None, refl, subst, rules}
+use Rattle.std.proofs.Common.{◌≡◌, Some, None, refl, subst, rules}
 use Rattle.grammar.specs.declared.mark.Mark.TheVariants.{Variable}
 use Rattle.grammar.proofs.Acceptor.{naming}
-use Rattle.plan.specs.declared.fault.ReadFault.TheVariants as fault-is
 use Rattle.plan.specs.Reading.{rest, first}
 use Rattle.plan.specs.Lining.{NotVariable}
 use Rattle.plan.proofs.Beginning.{quiet_skip}

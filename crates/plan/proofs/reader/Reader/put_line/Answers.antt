@@ -1,8 +1,7 @@
-use Rattle.std.proofs.Common.{◌-◌, Ok, Err, vec_len, sym, refl, ap, ◌∙◌, subst, arith}
+use Rattle.std.proofs.Common.{Ok, Err, vec_len, sym, refl, ap, ◌∙◌, subst, arith}
 use Rattle.language.specs.Limits.{nodes}
 use Rattle.language.specs.Plans.{store}
 use Rattle.grammar.proofs.Acceptor.{of_address, of_value, full, line, want, nothing, same, add}
-use Rattle.plan.specs.declared.fault.ReadFault.TheVariants as fault-is
 use Rattle.plan.specs.Reading.{tree_in, ask}
 use Rattle.plan.specs.Lining.{ExpressionSays}
 use Rattle.plan.proofs.Beginning.{put-placed}

@@ -10,7 +10,7 @@ lines-requires c =
     let m = c.scan.new.self in
     record {
       rooms = record {
-        room = omega (arith, c.scan.ensures.few, m.placed.ok.0, p.nodes.ok.0, ap length c.clear.ensures.nodes);
+        nodes = omega (arith, c.scan.ensures.few, m.placed.ok.0, p.nodes.ok.0, ap length c.clear.ensures.nodes);
         statements = omega (arith, c.scan.ensures.few, m.placed.ok.0, p.statements.ok.0, ap length c.clear.ensures.statements);
       };
       opened = subst (Opened p) (sym c.new-repeats.ensures.empty) tt;

@@ -1,9 +1,6 @@
-use Rattle.std.proofs.Common.{◌+◌, ◌-◌, ◌<◌, ◌≤◌, length, vec_len, sym, refl, ap, ◌∙◌, subst, arith, rules}
-use Rattle.language.specs.Limits.{nodes}
+use Rattle.std.proofs.Common.{◌+◌, ◌<◌, ◌≤◌, length, vec_len, sym, refl, ap, ◌∙◌, subst, arith, rules}
 use Rattle.stack.specs.Items.{items}
 use Rattle.grammar.specs.declared.mark.Mark.TheVariants.{Repeat}
-use Rattle.grammar.proofs.Acceptor.{full}
-use Rattle.plan.specs.declared.fault.ReadFault.TheVariants as fault-is
 use Rattle.plan.specs.declared.reader.Reader.{Reader}
 use Rattle.plan.specs.Reading.{rest, Opened}
 use Rattle.plan.proofs.Beginning.{repeat_starts}

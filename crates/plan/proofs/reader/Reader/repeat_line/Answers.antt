@@ -1,7 +1,6 @@
-use Rattle.std.proofs.Common.{◌-◌, vec_len, sym, ap, ◌∙◌, arith}
+use Rattle.std.proofs.Common.{vec_len, sym, ap, ◌∙◌, arith}
 use Rattle.language.specs.Limits.{nodes}
 use Rattle.grammar.proofs.Acceptor.{of_count, full, line, body, plain}
-use Rattle.plan.specs.declared.fault.ReadFault.TheVariants as fault-is
 use Rattle.plan.specs.Reading.{tree_in, ask}
 use Rattle.plan.proofs.Steps.{goes_then, by_err, err_made, err_tell}
 use Rattle.plan.proofs.Lines.{count-ends}

@@ -1,6 +1,5 @@
-use Rattle.std.proofs.Common.{◌-◌, ◌∙◌, arith, rules}
+use Rattle.std.proofs.Common.{◌∙◌, arith, rules}
 use Rattle.grammar.specs.declared.mark.Mark.TheVariants.{Let, Put}
-use Rattle.plan.specs.declared.fault.ReadFault.TheVariants as fault-is
 use Rattle.plan.specs.Reading.{rest}
 use Rattle.plan.specs.Lining.{NoLine}
 use Rattle.plan.proofs.Beginning.{behind_let, behind-put}
