@@ -3,7 +3,8 @@
 # Rust (plain.rs), both built for release, turn about in one run. The best of five turns counts.
 set -eu
 cd "$(dirname "$0")/.."
-rt check speed >/dev/null
+(cd crates/speed && rt run >/dev/null)
+speed=crates/speed/out/speed
 work=$(mktemp -d)
 trap 'rm -rf "$work"' EXIT
 rustc --edition 2024 -C opt-level=3 -o "$work/plain" bench/plain.rs
@@ -13,7 +14,7 @@ python3 bench/texts.py "$work"
 versus() {
   local best_proved= best_plain= n
   for _ in 1 2 3 4 5; do
-    n=$(target/bin/speed "$@" | awk 'NR == 1 { print $3 / $2 }')
+    n=$("$speed" "$@" | awk 'NR == 1 { print $3 / $2 }')
     best_proved=$(printf '%s\n' $best_proved "$n" | sort -g | head -n 1)
     n=$("$work/plain" "$@" | awk 'NR == 1 { print $3 / $2 }')
     best_plain=$(printf '%s\n' $best_plain "$n" | sort -g | head -n 1)
@@ -27,4 +28,4 @@ versus machine bench/loop.plan
 versus read "$work/read.plan" 2000
 versus compile "$work/largest.plan" 2000
 echo 'One check of a block, by its number of instructions:'
-target/bin/speed check | awk '{ printf "%5d %-8s %8.1f us\n", $1, $2, $4 / $3 / 1000 }'
+"$speed" check | awk '{ printf "%5d %-8s %8.1f us\n", $1, $2, $4 / $3 / 1000 }'

@@ -1,17 +1,22 @@
 #!/usr/bin/env bash
-# Runs target/bin/talft on each case of crates/talft/cases, and compares what it does.
+# Builds crates/talft, over what `rt check` kept, and runs it on each case of crates/talft/cases, and compares what it does.
 # A case is a folder: args (one word to a line), stdin, the expected stdout and stderr, and status. A file that is
 # not there is empty, and a status that is not there is 0. The tool runs in a folder of its own, with a copy of
 # crates/talft/data and of the case's files/. Prints a line for each case that differs, and then
 # 'N passed, M failed'; the status is 1 if one failed.
 set -u
 cd "$(dirname "$0")/.." || exit 2
-tool=$PWD/target/bin/talft
+tool=$PWD/crates/talft/out/talft
 cases=$PWD/crates/talft/cases
 data=$PWD/crates/talft/data
-[ -x "$tool" ] || { echo "cases.sh: $tool is not there: run rt check talft"; exit 2; }
 room=$(mktemp -d) || exit 2
 trap 'rm -rf "$room"' EXIT
+# an empty script is run with no answer; what is asked for here is the program
+(cd crates/talft && exec rt run -- replay) </dev/null >"$room/log" 2>&1 && [ -x "$tool" ] || {
+    tail -n 20 "$room/log"
+    echo "cases.sh: crates/talft cannot be proved and built"
+    exit 2
+}
 
 passed=0
 failed=0

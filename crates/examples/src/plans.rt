@@ -6,6 +6,7 @@ use compiler::tables::Compiler;
 use isa::limits::MODULE_WORDS;
 use memory::{ArrayMemory, Memory};
 use plan::fault::Layer;
+use plan::reader::Reader;
 use simulator::simulator::Simulator;
 use std::process::Abort;
 use std::test::Fail;
@@ -85,4 +86,35 @@ fn nesting(rt: HostRuntime) -> Result<(), Fail> {
         36,
         Layer::Reader,
     )
+}
+
+// A line of 8,001 bytes: LET, and behind it the bytes as they are.
+fn let_line(bytes: &mut [u8; 8001]) {
+    bytes[0] = b'L';
+    bytes[1] = b'E';
+    bytes[2] = b'T';
+    bytes[3] = b' ';
+    bytes[4] = b'A';
+    bytes[5] = b'=';
+}
+
+#[test]
+fn long_lines_need_no_deep_stack(rt: HostRuntime) -> Result<(), Fail> {
+    let mut reader = Reader::new(rt.alloc())?;
+    let mut sum = [b'+'; 8001];
+    for i in 0..4001usize {
+        sum[2 * i] = b'1';
+    }
+    let_line(&mut sum);
+    assert!(rt; reader.read(&sum).is_ok());
+    assert!(rt; reader.plan().nodes().len() == 7995);
+    let mut open = [b'('; 8001];
+    let_line(&mut open);
+    match reader.read(&open) {
+        Ok(_) => Err(Fail::new("read")),
+        Err(fault) => {
+            assert!(rt; fault.number() == 5 && fault.place() == 22);
+            Ok(())
+        },
+    }
 }

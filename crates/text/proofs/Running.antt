@@ -2,7 +2,7 @@
 use Rattle.std.proofs.Common.{◌≡◌, ℕ, suc, ◌+◌, ◌<◌, ◌≤◌, Bool, true, false, cond, not, List, [], ◌∷◌, length, get_or, take, drop, sym, refl, ap, ◌∙◌, arith}
 use Rattle.std.proofs.lemmas.List.{at_drop_more, at_drop_all}
 use Rattle.text.specs.declared.bytes.Class.{Class}
-use Rattle.text.specs.declared.bytes.Class.TheVariants.{White, Dark, Line, Said}
+use Rattle.text.specs.declared.bytes.Class.TheVariants.{White, Dark}
 use Rattle.text.specs.Bytes.{white, holds, counted, run, glued, words, before}
 
 pub run_short : (k : Class) (bs : List ℕ) → run k bs ≤ length bs

@@ -1,5 +1,5 @@
 -- Lines and columns.
-use Rattle.std.specs.Prelude.{ℕ, suc, ◌-◌, Bool, true, false, cond, List, [], ◌∷◌, length, take, drop, ◌==◌}
+use Rattle.std.specs.Prelude.{ℕ, suc, ◌-◌, cond, List, [], ◌∷◌, length, take, drop, ◌==◌}
 use Rattle.text.specs.declared.bytes.Class.TheVariants.{Line}
 use Rattle.text.specs.Bytes.{front}
 

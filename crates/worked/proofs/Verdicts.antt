@@ -1,5 +1,5 @@
 -- The worked examples of the check, computed.
-use Rattle.std.proofs.Common.{◌≡◌, ℕ, ◌<◌, true, refl, lit<}
+use Rattle.std.proofs.Common.{refl, lit<}
 use Rattle.isa.specs.Layout.{every}
 use Rattle.rules.specs.Limits.{in_force}
 use Rattle.rules.specs.Expressions.{same?}

@@ -1,6 +1,6 @@
-use Rattle.std.proofs.Common.{◌≡◌, take, drop, sym, ap, ◌∙◌}
-use Rattle.text.specs.declared.bytes.Class.TheVariants.{White, Dark}
-use Rattle.text.specs.Bytes.{run, words, before}
+use Rattle.std.proofs.Common.{drop, ◌∙◌}
+use Rattle.text.specs.declared.bytes.Class.TheVariants.{White}
+use Rattle.text.specs.Bytes.{run}
 use Rattle.text.proofs.Running.{words-white, white-over, first_word}
 use Rattle.text.proofs.bytes.first_word.Goals as goal
 

@@ -1,0 +1,2 @@
+-- The calls that a script makes.
+pub mod Acts
