@@ -3,12 +3,12 @@
 // `bench/run.sh` holds these beside the same things in plain Rust.
 #![tactic(auto)]
 
-mod blocks;
 mod calls;
+mod judging;
 
 use anyhow::anyhow;
-use blocks::time_check;
 use calls::{time_compile, time_machine, time_read};
+use judging::time_check;
 use std::{env, fs};
 
 fn times(text: Option<&String>) -> anyhow::Result<u32> {
