@@ -4,7 +4,7 @@ use mathlib.Core.Path.{fun_ext}
 use Rattle.std.proofs.lemmas.Bool.{cases_eq, eq-eqb, ne_eqb}
 use Rattle.std.proofs.lemmas.List.{drop_more}
 use Rattle.blocks.specs.Trees.{Id, at}
-use Rattle.rules.specs.Expressions.{Expr, num, same?}
+use Rattle.rules.specs.Expressions.{Expr, same?}
 use Rattle.rules.specs.Notes.{Colour, note, Note, Notes, expr_of, has?}
 use Rattle.rules.specs.Cards.{Variable, Slot, free, slot, Card, chosen, meets?, meet_all?, met?}
 use Rattle.blocks.specs.Meeting.{Seen, same_as?, meet_one?, first_only, seen_next, opt_in, seen_in, reach_opt}

@@ -1,5 +1,5 @@
 -- What the code's state stands for: after a new entry, and after one note is written.
-use Rattle.std.proofs.Common.{◌≡◌, ℕ, suc, ◌+◌, ◌<◌, ◌≤◌, Bool, true, false, cond, ◌&&◌, eqb, ◌≢◌, ◌⊎◌, List, [], ◌∷◌, ◌++◌, map, length, get_or, drop, set, sym, refl, ap, ◌∙◌, subst, inl, inr, arith, get_or-set_other, get_or-set_same}
+use Rattle.std.proofs.Common.{◌≡◌, ℕ, suc, ◌<◌, ◌≤◌, Bool, true, false, cond, ◌&&◌, eqb, ◌⊎◌, List, [], ◌∷◌, ◌++◌, map, length, get_or, drop, set, sym, refl, ap, ◌∙◌, subst, inl, inr, arith, get_or-set_other, get_or-set_same}
 use mathlib.Core.Path.{fun_ext}
 use Rattle.std.proofs.lemmas.List.{get_or_append_left, get_or_push, length_push}
 use Rattle.std.proofs.lemmas.Bool.{cases_lt, cases_eq, eq-eqb, ne_eqb, true≢false}
@@ -7,7 +7,7 @@ use Rattle.blocks.specs.Trees.{at, Kept}
 use Rattle.rules.specs.Expressions.{Expr, same?}
 use Rattle.blocks.specs.Reach as code
 use Rattle.blocks.specs.Reach.{reach_note, reach_pair, reach_dest, NotesBelow, PairsBelow, first_pair}
-use Rattle.rules.specs.Notes.{Note, note, Dest, branch, Static, upd, others, none?}
+use Rattle.rules.specs.Notes.{Note, note, branch, Static, upd, others, none?}
 use Rattle.rules.specs.Rules.{oldest?}
 use Rattle.blocks.specs.View.{note_in, pair_in, dest_in, view_in}
 

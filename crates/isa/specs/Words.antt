@@ -2,7 +2,6 @@
 use Rattle.std.specs.Prelude.{ℕ, ◌+◌, ◌-◌, ◌*◌, ◌/◌, ◌%◌, ◌^◌, Bool, cond, not, ◌&&◌, ◌||◌, ◌==◌, bit_and, nat_lt}
 use Rattle.isa.specs.declared.kinds.Arithmetic.{Arithmetic}
 use Rattle.isa.specs.declared.kinds.Arithmetic.TheVariants.{Add, Sub, Mul, Lt}
-use Rattle.isa.specs.declared.kinds.Colour.{Colour}
 use Rattle.isa.specs.declared.kinds.Colour.TheVariants.{Green, Blue}
 use Rattle.isa.specs.declared.kinds.Register.{Register}
 use Rattle.isa.specs.declared.kinds.Kind.{Kind}

@@ -1,5 +1,5 @@
 -- The worked example is within the limits.
-use Rattle.std.proofs.Common.{refl, arith}
+use Rattle.std.proofs.Common.{arith}
 use Rattle.language.specs.Limits.{Within, in_force}
 use Rattle.language.specs.Sample.{sample}
 

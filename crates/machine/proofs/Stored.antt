@@ -1,5 +1,5 @@
 -- The instructions of the code store.
-use Rattle.std.proofs.Common.{◌≡◌, map, length, vec_items, vec_len, sym, ◌∙◌}
+use Rattle.std.proofs.Common.{◌≡◌, length, vec_items, vec_len, sym, ◌∙◌}
 use Rattle.std.proofs.lemmas.List.{length-map}
 use Rattle.isa.specs.declared.instruction.Instruction.{Instruction}
 use Rattle.machine.specs.declared.code.Code.{Code}

@@ -1,6 +1,5 @@
 -- The ends of a run and their numbers.
 use Rattle.std.specs.Prelude.{ℕ, Bool, true, false}
-use Rattle.machine.specs.declared.ends.Report.{Report}
 use Rattle.machine.specs.declared.ends.Report.TheVariants.{CountersDiffer, StoreDiffers, Destination, Queue, Outside}
 use Rattle.machine.specs.declared.ends.End.{End}
 use Rattle.machine.specs.declared.ends.End.TheVariants.{Going, Halted, NoSuchCell, Reported}

@@ -1,13 +1,12 @@
 -- The rules keep the two copies of the code apart.
-use Rattle.std.proofs.Common.{◌≡◌, ℕ, zero, suc, ◌<◌, true, false, ◌⊎◌, List, [], ◌∷◌, ◌++◌, sym, refl, ap, ◌∙◌, subst, inl, inr, arith}
+use Rattle.std.proofs.Common.{◌≡◌, ℕ, zero, suc, ◌<◌, true, ◌⊎◌, [], ◌∷◌, ◌++◌, sym, refl, ap, ◌∙◌, subst, inl, inr, arith}
 use Rattle.std.proofs.lemmas.Bool.{false≢true}
 use Rattle.rules.specs.Limits.{Limits}
 use Rattle.rules.specs.Expressions.{Expr}
 use Rattle.rules.specs.Notes.{Colour, green, blue, Register, Kind, mov, cpy, arith as arith-op, ld, st, jmp, bz, halt, Note, nothing, note, Pending, Static, note_of, expr_of, noted?, colour?, has?, others, next}
 use Rattle.rules.specs.Cards.{Entry, inside, start, entry, starts?}
-use Rattle.rules.specs.Rules.{leaves?}
 use Rattle.rules.specs.Module.{Module, size, instr, enter, static, Keeps}
-use Rattle.rules.specs.Copies.{OneColour, Stated, Turns, Copies, CopiesStand}
+use Rattle.rules.specs.Copies.{OneColour, Stated, Turns, CopiesStand}
 use Rattle.rules.proofs.Sameness.{same_eq}
 use Rattle.rules.proofs.Relations.{Has, Own, Rule, rule_is, Passable}
 

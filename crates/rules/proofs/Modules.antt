@@ -1,5 +1,5 @@
 -- The rules of a block are the module's rules at its places.
-use Rattle.std.proofs.Common.{◌≡◌, ℕ, zero, suc, ◌+◌, ◌<◌, Bool, true, false, not, ◌&&◌, ◌||◌, eqb, ltb, leb, ◌⊎◌, List, [], length, get_or, Some, None, Option, sym, refl, ap, ◌∙◌, inl, inr, add-zero, add-one, arith}
+use Rattle.std.proofs.Common.{◌≡◌, ℕ, zero, suc, ◌+◌, ◌<◌, Bool, true, false, not, ◌&&◌, ◌||◌, ltb, leb, ◌⊎◌, List, [], length, get_or, Some, None, Option, sym, refl, ap, ◌∙◌, inl, inr, add-zero, add-one, arith}
 use Rattle.std.proofs.lemmas.Bool.{cases_eq, eq-eqb, ne_eqb, lt-ltb, le-ltb, le-leb, lt-leb}
 use Rattle.rules.specs.Limits.{Limits}
 use Rattle.rules.specs.Notes.{Kind, halt, Static, none?, clear?, next}
@@ -7,7 +7,7 @@ use Rattle.rules.specs.Cards.{Card, entry, inside, start, starts?, fresh, met?}
 use Rattle.rules.specs.Rules.{own?, leaves?}
 use Rattle.rules.specs.Module.{Module, size, instr, enter, static, falls?, passable?, rule?, kept_at}
 use Rattle.rules.specs.Module as rules
-use Rattle.rules.specs.Block.{before, kept?, ends?, last?}
+use Rattle.rules.specs.Block.{before, kept?, ends?}
 use Rattle.rules.specs.Part.{Behind, Part}
 use Rattle.rules.proofs.Befores.{before-none, before_more}
 

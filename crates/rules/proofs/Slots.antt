@@ -1,5 +1,5 @@
 -- A card's byte and its entry.
-use Rattle.std.proofs.Common.{◌≡◌, ℕ, ◌+◌, ◌-◌, ◌%◌, ◌<◌, true, false, cond, eqb, leb, List, length, get_or, sym, refl, ap, ◌∙◌, subst, mod-lt, mod-eq_of_lt, arith, lit<}
+use Rattle.std.proofs.Common.{◌≡◌, ℕ, ◌+◌, ◌-◌, ◌%◌, ◌<◌, true, false, eqb, leb, List, length, get_or, sym, refl, ap, ◌∙◌, subst, mod-lt, mod-eq_of_lt, arith, lit<}
 use native.Mathlib.Bridge.{le_prop}
 use native.Mathlib.Nat.{ℕ_set}
 use Rattle.std.proofs.lemmas.List.FromFn.{fill_by_all}

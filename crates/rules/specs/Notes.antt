@@ -29,7 +29,7 @@ pub data Dest : Type 0 where
   jump : ℕ → Dest
   branch : Expr → ℕ → Dest
 
--- kG and kB are the numbers of stores that green and blue have made since the block's start
+-- k_g and k_b (kG and kB in docs/check.md) are the numbers of stores that green and blue have made since the block's start
 pub record Static : Type 0 where
   pub notes : Notes
   pub pending : Pending

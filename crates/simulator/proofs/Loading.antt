@@ -1,5 +1,5 @@
 -- A load on an idle simulator.
-use Rattle.std.proofs.Common.{◌≡◌, ℕ, List, Some, None, Ok, Err, Option, Result, refl, ap, ◌∙◌, arith}
+use Rattle.std.proofs.Common.{◌≡◌, ℕ, List, Some, None, Ok, Option, Result, refl, ap, ◌∙◌, arith}
 use Rattle.std.specs.Option.{option_map}
 use Rattle.memory.specs.Cells.{Cells}
 use Rattle.isa.specs.declared.kinds.Kind.{Kind}
@@ -7,7 +7,7 @@ use Rattle.machine.specs.declared.run.Run.{Run as Held}
 use Rattle.machine.specs.Machine.{Run, started}
 use Rattle.machine.specs.Views.{run_of}
 use Rattle.simulator.specs.Calls.{loads}
-use Rattle.simulator.specs.Model.{Loaded, Model, loaded_of}
+use Rattle.simulator.specs.Model.{Model, loaded_of}
 use Rattle.simulator.specs.declared.refusal.Refusal.{Refusal}
 
 abbrev holding : Cells → List Kind → Run → Model

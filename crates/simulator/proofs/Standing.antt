@@ -1,5 +1,5 @@
 -- What stands of a simulator after any list of calls.
-use Rattle.std.proofs.Common.{◌≡◌, ℕ, zero, suc, ◌+◌, ◌-◌, ◌≤◌, Bool, true, false, cond, ◌||◌, eqb, ltb, List, [], ◌∷◌, length, Some, None, Ok, Err, Option, Result, sym, refl, ap, ◌∙◌, subst, subst₂, le_refl, arith, lit≤}
+use Rattle.std.proofs.Common.{◌≡◌, ℕ, zero, suc, ◌+◌, ◌≤◌, Bool, true, cond, ◌||◌, eqb, ltb, List, [], ◌∷◌, length, Some, None, Ok, Err, Option, sym, refl, ap, ◌∙◌, subst, subst₂, le_refl, arith}
 use mathlib.Core.Path.{subst⁻¹}
 use Rattle.memory.specs.Cells.{Cells, replaced, stored}
 use Rattle.isa.specs.declared.kinds.Kind.{Kind}
@@ -18,13 +18,13 @@ use Rattle.soundness.proofs.Passed.{passes_passed}
 use Rattle.soundness.proofs.Words.{reached_words}
 use Rattle.soundness.proofs.Finding.{finding}
 use Rattle.simulator.specs.declared.call.Answer.{Answer}
-use Rattle.simulator.specs.declared.call.Answer.TheVariants.{Done, Ran, Struck}
+use Rattle.simulator.specs.declared.call.Answer.TheVariants.{Ran, Struck}
 use Rattle.simulator.specs.declared.call.Call.{Call}
 use Rattle.simulator.specs.declared.call.Call.TheVariants.{Load, Put, Run, Strike, Look, Probe, Show, Clear}
 use Rattle.simulator.specs.declared.place.Place.{Place}
 use Rattle.simulator.specs.declared.refusal.Refusal.{Refusal}
 use Rattle.simulator.specs.declared.refusal.Refusal.TheVariants as refusal
-use Rattle.simulator.specs.Calls.{Answered, with_loaded, ran_to, puts, goes, runs, hit, strikes_place, strikes as striking, clears}
+use Rattle.simulator.specs.Calls.{Answered, puts, goes, runs, hit, strikes_place, strikes as striking, clears}
 use Rattle.simulator.specs.Model.{Loaded, Model}
 use Rattle.simulator.specs.Places.{place_of, latch, struck, Low}
 use Rattle.simulator.specs.Replay.{Verdict, verdict, answered, load_words, respond, JudgedCall, Sized, Responds, Replays}

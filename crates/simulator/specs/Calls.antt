@@ -1,11 +1,11 @@
 -- What each call answers, and the simulator after it. A refusal leaves the simulator as it was.
 use Rattle.std.specs.Prelude.{ℕ, ◌+◌, ◌-◌, cond, ◌||◌, List, Some, None, Ok, Err, Option, Result, ◌==◌, bit_xor, count_ones, nat_lt}
-use Rattle.memory.specs.Cells.{Cells, stored}
+use Rattle.memory.specs.Cells.{stored}
 use Rattle.isa.specs.declared.kinds.Kind.{Kind}
 use Rattle.machine.specs.declared.ends.End.{End}
 use Rattle.machine.specs.declared.ends.End.TheVariants.{Going}
 use Rattle.machine.specs.Ends.{going?}
-use Rattle.machine.specs.Machine.{State, Run, started, after}
+use Rattle.machine.specs.Machine.{Run, started, after}
 use Rattle.simulator.specs.declared.place.Place.{Place}
 use Rattle.simulator.specs.declared.refusal.Refusal.{Refusal}
 use Rattle.simulator.specs.declared.refusal.Refusal.TheVariants.{NotUnderWay, NotIdle, BadCount, TooManySteps, NoSuchPlace, NoSuchCell}

@@ -1,5 +1,5 @@
 -- What a simulator stands for.
-use Rattle.std.specs.Prelude.{List, Some, None, Option}
+use Rattle.std.specs.Prelude.{List, None, Option}
 use Rattle.std.specs.Option.{option_map}
 use Rattle.memory.specs.Cells.{Cells}
 use Rattle.isa.specs.declared.kinds.Kind.{Kind}

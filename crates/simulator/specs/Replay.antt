@@ -1,6 +1,5 @@
 -- Lists of calls: what they answer, and the simulator after them.
 use Rattle.std.specs.Prelude.{◌≡◌, ℕ, List, [], ◌∷◌, Ok, Err, Result}
-use Rattle.machine.specs.declared.ends.End.{End}
 use Rattle.rules.specs.Words.{module_of}
 use Rattle.checker.specs.declared.fault.CheckFault.{CheckFault}
 use Rattle.checker.specs.Passing.{Judged}

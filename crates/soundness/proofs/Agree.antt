@@ -12,7 +12,7 @@ use Rattle.machine.specs.Machine.{State, Outcome, stop, go, need, reg, with_queu
 use Rattle.machine.specs.Machine as machine
 use Rattle.rules.specs.Limits.{Limits}
 use Rattle.rules.specs.Expressions.{load}
-use Rattle.rules.specs.Notes.{Colour, green, blue, Register, Kind, mov, cpy, arith, ld, st, jmp, bz, halt, upd, Note, nothing, note, Notes, Static, note_of, expr_of, combine, next}
+use Rattle.rules.specs.Notes.{Colour, green, blue, Register, Kind, mov, cpy, arith, ld, st, jmp, bz, halt, upd, Note, note, Notes, Static, note_of, expr_of, combine, next}
 use Rattle.rules.specs.Module.{Module, size, instr, static}
 use Rattle.rules.proofs.Relations.{Coloured, Rule}
 use Rattle.soundness.proofs.Outcomes.{Quiet, Follow, follow_need, follow_cond}

@@ -12,7 +12,7 @@ use Rattle.isa.specs.declared.kinds.Kind.TheVariants.{Move, Copy, Arith, Load, S
 use Rattle.isa.specs.Words.{second_word, operation, field_a, field_b, field_c, uses, named, kind_by, kind_of}
 use Rattle.isa.specs.Layout.{word, kind_at, start_at, card_byte, block_fits, slot_fits}
 use Rattle.rules.specs.Limits.{Limits}
-use Rattle.rules.specs.Cards.{free, Block, Card, inside, start, entry, starts?}
+use Rattle.rules.specs.Cards.{free, Block, Card, start, entry, starts?}
 use Rattle.rules.specs.Module.{Module, size, instr, Keeps}
 use Rattle.rules.specs.Words.{slot_of, card_of, block_of, module_of, Passes}
 use Rattle.rules.proofs.Layouts.{every-at, few, start_below, start_first}

@@ -1,7 +1,7 @@
 -- The worked examples, computed.
 use Rattle.std.proofs.Common.{refl}
 use lib.Count.{ones}
-use Rattle.soundness.specs.Worked.{Worked, WorkedRuns}
+use Rattle.soundness.specs.Worked.{WorkedRuns}
 
 pub worked : WorkedRuns 7
 unfolding ones

@@ -1,6 +1,5 @@
 -- The code of a plan keeps the rules of the check.
-use Rattle.std.proofs.Common.{◌≡◌, ℕ, suc, ◌+◌, ◌<◌, ◌≤◌, max, true, ◌≢◌, refl, ap, ◌∙◌, arith}
-use mathlib.Core.Path.{subst⁻¹}
+use Rattle.std.proofs.Common.{◌≡◌, ℕ, suc, ◌+◌, ◌<◌, ◌≤◌, true, ◌≢◌, refl, ap, ◌∙◌, arith}
 use native.Mathlib.Decide.{ℕ_discrete, dec_lt}
 use Rattle.rules.specs.Expressions.{Expr, Sub, num as lit}
 use Rattle.rules.specs.Notes.{upd}
@@ -11,7 +10,7 @@ use Rattle.language.specs.Limits.{width, widest, depth, Proper, ProperPlan}
 use Rattle.translation.specs.Cards.{card}
 use Rattle.translation.specs.Code.{Source, num, copy, calc, fetch, set, Entry, inside, start, twice}
 use Rattle.translation.specs.Compile.{over, head_of, past, exit_of}
-use Rattle.translation.proofs.Twins.{upd_same, upd_other, spread}
+use Rattle.translation.proofs.Twins.{upd_same, upd_other}
 use Rattle.translation.proofs.Values.{Word, WordIn}
 use Rattle.translation.proofs.Placing.{entry_of, before, Line}
 use Rattle.translation.proofs.Standing.{PlacedE, PlacedP, Loop, left, plan_open}

@@ -1,11 +1,10 @@
 -- The run of a plan's code, from its start to its end and beyond.
-use Rattle.std.proofs.Common.{◌≡◌, ℕ, zero, suc, ◌+◌, ◌-◌, ◌<◌, ◌≤◌, Bool, true, false, cond, eqb, List, [], ◌++◌, length, sym, refl, ap, ◌∙◌, subst, arith}
+use Rattle.std.proofs.Common.{◌≡◌, ℕ, zero, suc, ◌+◌, ◌-◌, ◌<◌, ◌≤◌, Bool, true, false, cond, eqb, List, [], ◌++◌, sym, refl, ap, ◌∙◌, subst, arith}
 use native.Mathlib.Decide.{dec_lt}
 use Rattle.std.proofs.lemmas.List.{length-map}
 use Rattle.std.proofs.lemmas.Bool.{true≢false}
 use Rattle.rules.specs.Notes.{Kind, upd}
 use Rattle.rules.specs.Module.{size}
-use Rattle.machine.specs.declared.queue.Pair.{Pair}
 use Rattle.machine.specs.declared.ends.End.{End}
 use Rattle.machine.specs.declared.ends.End.TheVariants.{Going, Halted, NoSuchCell, Reported}
 use Rattle.machine.specs.Ends.{number, going?}
@@ -14,10 +13,10 @@ use Rattle.machine.proofs.Runs.{stays, further}
 use Rattle.language.specs.Plans.{Plan}
 use Rattle.language.specs.Meaning.{Result, fine, stuck, book_of, ending, meaning, outcome, blank}
 use Rattle.language.specs.Limits.{in_force, Within}
-use Rattle.translation.specs.Code.{num, set, Entry, inside, twice}
+use Rattle.translation.specs.Code.{num, set, Entry, inside}
 use Rattle.translation.specs.Compile.{past, compiled}
-use Rattle.translation.specs.Steps.{taken, lasting, steps}
-use Rattle.translation.specs.Runs.{pair_of, runs, makes, last, Ran, CodeRuns}
+use Rattle.translation.specs.Steps.{taken, lasting}
+use Rattle.translation.specs.Runs.{pair_of, runs, last, Ran, CodeRuns}
 use Rattle.translation.proofs.Values.{Word}
 use Rattle.translation.proofs.Placing.{Line}
 use Rattle.translation.proofs.Standing.{standing}

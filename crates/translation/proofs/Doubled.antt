@@ -1,5 +1,5 @@
 -- Doubled code runs as its single copy does, two steps for one.
-use Rattle.std.proofs.Common.{◌≡◌, ℕ, suc, ◌-◌, ◌<◌, Bool, true, false, cond, not, ◌&&◌, eqb, ltb, List, [], ◌∷◌, ◌++◌, length, take, sym, refl, ap, ◌∙◌, subst, arith, length-append}
+use Rattle.std.proofs.Common.{◌≡◌, ℕ, suc, ◌-◌, ◌<◌, Bool, true, false, cond, not, ◌&&◌, eqb, List, [], ◌∷◌, ◌++◌, length, take, sym, refl, ap, ◌∙◌, subst, arith, length-append}
 use lib.Dec.{eqb-suc-zero}
 use Rattle.std.proofs.lemmas.Bool.{lt-ltb}
 use Rattle.std.proofs.lemmas.List.{append-nil}
@@ -10,7 +10,7 @@ use Rattle.machine.specs.declared.queue.Pair.{Pair}
 use Rattle.machine.specs.declared.ends.End.{End}
 use Rattle.machine.specs.declared.ends.End.TheVariants.{Going, Halted, NoSuchCell}
 use Rattle.machine.specs.declared.ends.Report.TheVariants.{CountersDiffer, StoreDiffers, Destination, Outside}
-use Rattle.machine.specs.Machine.{State, Outcome, stop, go, need, zero?, fall, at, aim, land, exec, settled, Run, counted, step, after, leaving, made, started}
+use Rattle.machine.specs.Machine.{State, Outcome, stop, go, need, zero?, at, aim, land, exec, settled, Run, counted, step, after, leaving, made, started}
 use Rattle.translation.specs.Code.{Source, num, copy, calc, fetch, Single, set, store, jump, branch, twice, place, dye}
 use Rattle.translation.proofs.Twins.{eqb_same, spread, spread_at, upd_twin, upd_green, and_both}
 use Rattle.translation.proofs.Values.{Word, get, WordIn, get_word, upd-word}

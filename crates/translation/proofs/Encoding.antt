@@ -1,8 +1,8 @@
 -- The words of an instruction are well formed, and are read as that instruction.
-use Rattle.std.proofs.Common.{◌≡◌, ℕ, suc, ◌%◌, ◌<◌, ◌≤◌, max, Bool, true, false, cond, ◌&&◌, ◌||◌, eqb, ltb, refl, ap, ◌∙◌, arith}
+use Rattle.std.proofs.Common.{◌≡◌, ℕ, ◌%◌, ◌<◌, ◌≤◌, true, cond, ◌&&◌, ◌||◌, eqb, ltb, refl, ap, ◌∙◌, arith}
 use Rattle.std.proofs.lemmas.Bool.{lt-ltb}
 use Rattle.isa.specs.Registers.{registers}
-use Rattle.isa.specs.Words.{packed, first_word, second_word, operation, field_a, field_b, field_c, uses, fits, well_formed, named, kind_by, kind_of}
+use Rattle.isa.specs.Words.{packed, operation, field_a, field_b, field_c, uses, fits, well_formed, named, kind_by, kind_of}
 use Rattle.rules.specs.Expressions.{Add, Sub, Mul, Lt}
 use Rattle.rules.specs.Notes.{Colour, green, blue, Register, Kind, mov, cpy, arith as calc, ld, st, jmp, bz, halt}
 use Rattle.translation.specs.Checked.{Readable}

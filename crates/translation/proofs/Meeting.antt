@@ -3,8 +3,8 @@ use Rattle.std.proofs.Common.{◌≡◌, ℕ, zero, suc, ◌+◌, ◌%◌, ◌<�
 use native.Mathlib.Decide.{ℕ_discrete, dec_lt}
 use Rattle.std.proofs.lemmas.Bool.{eq-eqb, ne_eqb, lt-ltb, le-ltb}
 use Rattle.rules.specs.Expressions.{Expr, var, same?}
-use Rattle.rules.specs.Notes.{Colour, green, blue, Note, note, Notes, expr_of, has?}
-use Rattle.rules.specs.Cards.{Card, free, slot, card_note, fresh, chosen, meets?, meet_all?, met?}
+use Rattle.rules.specs.Notes.{Colour, green, blue, note, expr_of, has?}
+use Rattle.rules.specs.Cards.{free, slot, card_note, fresh, chosen, meets?, meet_all?, met?}
 use Rattle.rules.proofs.Sameness.{eq_same}
 use Rattle.rules.specs.Words.{variable}
 use Rattle.translation.specs.Cards.{twin_slot, slots_from, card}

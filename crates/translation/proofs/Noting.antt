@@ -1,5 +1,5 @@
 -- The rules of the check are kept in doubled code.
-use Rattle.std.proofs.Common.{◌≡◌, ℕ, suc, ◌+◌, ◌<◌, ◌≤◌, max, Bool, true, false, not, ◌&&◌, ◌||◌, eqb, ltb, List, [], ◌∷◌, sym, refl, ap, ◌∙◌, add-one, arith}
+use Rattle.std.proofs.Common.{◌≡◌, ℕ, suc, ◌+◌, ◌<◌, ◌≤◌, max, Bool, true, not, ◌||◌, List, [], ◌∷◌, sym, refl, ap, ◌∙◌, add-one, arith}
 use mathlib.Core.Path.{subst⁻¹}
 use native.Mathlib.Decide.{dec_lt}
 use lib.Dec.{eqb-suc-zero}
@@ -7,12 +7,12 @@ use Rattle.std.proofs.lemmas.Bool.{eq-eqb, lt-ltb, le-leb}
 use Rattle.isa.specs.Registers.{registers}
 use Rattle.isa.specs.Words.{second_word as immediate}
 use Rattle.rules.specs.Limits.{Limits}
-use Rattle.rules.specs.Expressions.{Expr, num as lit, load, mk, same?}
+use Rattle.rules.specs.Expressions.{Expr, num as lit, load, mk}
 use Rattle.rules.specs.Notes as notes
 use Rattle.rules.specs.Notes.{Colour, green, blue, Kind, halt, Note, note, Notes, Dest, clear, jump as jump_to, branch as branch_to, Static, expr_of, target_of, combine, next, upd, noted?, has?, alike?}
 use Rattle.rules.specs.Cards.{Block, Card, entry, starts?, enters?, met?}
 use Rattle.rules.specs.Cards as rules
-use Rattle.rules.specs.Rules.{needs, all?, own?, leaves?, numeral?, target?, arrives?}
+use Rattle.rules.specs.Rules.{needs, all?, leaves?, numeral?, target?, arrives?}
 use Rattle.rules.specs.Module.{Module, size, instr, passable?, falls?, last?, rule?, enter, static, kept_at}
 use Rattle.rules.proofs.Sameness.{eq_same}
 use Rattle.translation.specs.Code.{Source, num, copy, calc, fetch, Single, set, store, jump, branch, Entry, twice, place, dye}

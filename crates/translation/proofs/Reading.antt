@@ -1,22 +1,21 @@
 -- The words of a plan's code are read as that code.
-use Rattle.std.proofs.Common.{◌≡◌, ℕ, zero, suc, ◌+◌, ◌-◌, ◌*◌, ◌<◌, ◌≤◌, Bool, true, false, cond, ◌&&◌, ◌||◌, eqb, ltb, leb, List, [], ◌∷◌, map, length, get_or, sym, refl, ap, ◌∙◌, subst, arith}
+use Rattle.std.proofs.Common.{◌≡◌, ℕ, zero, suc, ◌+◌, ◌-◌, ◌*◌, ◌<◌, ◌≤◌, Bool, true, cond, eqb, ltb, List, [], ◌∷◌, map, length, get_or, sym, refl, ap, ◌∙◌, subst, arith}
 use mathlib.Core.Path.{subst⁻¹}
-use native.Mathlib.Decide.{ℕ_discrete}
 use native.Mathlib.Nat.{ℕ_set}
-use Rattle.std.proofs.lemmas.Bool.{eq-eqb, ne_eqb, lt-ltb, le-leb, lt-leb}
+use Rattle.std.proofs.lemmas.Bool.{eq-eqb, ne_eqb, lt-ltb, le-leb}
 use Rattle.std.specs.List.{range_with_len}
 use Rattle.std.proofs.lemmas.List.FromFn.{fill_by_all}
 use Rattle.isa.specs.Words.{well_formed, kind_of}
-use Rattle.isa.specs.Layout.{word, kind_at, well_formed_at, start_at, card_byte, slot_byte, slotted, every, start_fits, slot_fits, card_fits, block_fits, code_fits, measured}
+use Rattle.isa.specs.Layout.{word, kind_at, well_formed_at, start_at, card_byte, slot_byte, slotted, every, start_fits, slot_fits, card_fits, block_fits, code_fits}
 use Rattle.isa.proofs.Every.{every-none, every_suc}
 use Rattle.rules.specs.Notes.{green, blue, halt}
 use Rattle.rules.specs.Cards.{Slot, free, slot, Card, Block}
-use Rattle.rules.specs.Module.{Module, size, instr, Keeps}
+use Rattle.rules.specs.Module.{size, instr, Keeps}
 use Rattle.rules.specs.Words.{slot_of, block_of, module_of}
 use Rattle.language.specs.Plans.{Plan}
-use Rattle.language.specs.Limits.{repeats, in_force, Within}
+use Rattle.language.specs.Limits.{in_force, Within}
 use Rattle.translation.specs.Cards.{card}
-use Rattle.translation.specs.Code.{Entry, inside, start, Code, stop, line, twice, block_at, blocks_from, build}
+use Rattle.translation.specs.Code.{Entry, inside, start, Code, stop, line, twice, block_at, blocks_from}
 use Rattle.translation.specs.Compile.{whole, compiled}
 use Rattle.translation.specs.Checked.{Rising, Blocks, Checked}
 use Rattle.translation.specs.Written.{no_block, block_in, Written, WordsPass}

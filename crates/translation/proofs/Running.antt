@@ -1,5 +1,5 @@
 -- The code of a plan does what the plan means.
-use Rattle.std.proofs.Common.{◌≡◌, ℕ, zero, suc, ◌+◌, ◌<◌, ◌≤◌, max, Bool, true, false, cond, eqb, ◌≢◌, List, [], map, sym, refl, ap, ◌∙◌, subst, ap₂, arith}
+use Rattle.std.proofs.Common.{◌≡◌, ℕ, zero, suc, ◌+◌, ◌<◌, ◌≤◌, Bool, true, false, cond, eqb, ◌≢◌, List, map, sym, refl, ap, ◌∙◌, subst, ap₂, arith}
 use Rattle.std.proofs.lemmas.List.{map-append}
 use Rattle.isa.specs.Words.{alu}
 use Rattle.rules.specs.Notes.{upd}
@@ -8,9 +8,9 @@ use Rattle.rules.specs.Module.{Module, size}
 use Rattle.machine.specs.declared.queue.Pair.{Pair}
 use Rattle.machine.specs.declared.ends.End.TheVariants.{NoSuchCell}
 use Rattle.language.specs.Plans.{Tree, number, variable, cell, node, Plan, done, assign, store as put, again}
-use Rattle.language.specs.Meaning.{Store, Book, Result, fine, stuck, value, value_in, assigned, written, and_then, times, meaning}
+use Rattle.language.specs.Meaning.{Book, Result, fine, stuck, value, value_in, assigned, written, and_then, times, meaning}
 use Rattle.language.specs.Limits.{Proper, ProperPlan, depth}
-use Rattle.translation.specs.Code.{num, copy, set, store, Entry, inside, start, twice}
+use Rattle.translation.specs.Code.{copy, set, store, Entry, inside, start, twice}
 use Rattle.translation.specs.Compile.{over, head_of, past, exit_of}
 use Rattle.translation.specs.Steps.{onward, turns, taken}
 use Rattle.translation.specs.Runs.{pair_of}

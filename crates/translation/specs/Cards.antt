@@ -1,5 +1,5 @@
 -- The cards of compiled code: twin i has variable i, in both colours.
-use Rattle.std.specs.Prelude.{ℕ, zero, suc, cond, List, [], ◌∷◌, nat_lt}
+use Rattle.std.specs.Prelude.{ℕ, zero, suc, cond, [], ◌∷◌, nat_lt}
 use Rattle.rules.specs.Notes.{Colour, green, blue}
 use Rattle.rules.specs.Cards.{Slot, free, slot, Card}
 use Rattle.rules.specs.Words.{variable}

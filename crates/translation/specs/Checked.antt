@@ -5,7 +5,7 @@ use Rattle.isa.specs.Words.{first_word, second_word, well_formed, kind_of}
 use Rattle.rules.specs.Notes.{Kind}
 use Rattle.rules.specs.Limits.{Limits}
 use Rattle.rules.specs.Cards.{Block, Card, free}
-use Rattle.rules.specs.Module.{Module, size, instr, Keeps}
+use Rattle.rules.specs.Module.{size, instr, Keeps}
 use Rattle.language.specs.Plans.{Plan}
 use Rattle.language.specs.Limits.{need, repeats, Within, in_force}
 use Rattle.translation.specs.Compile.{compiled}

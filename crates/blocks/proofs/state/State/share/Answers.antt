@@ -1,5 +1,5 @@
 use Rattle.std.proofs.Common.{◌≡◌, length, vec_items, vec_len, arith, rules}
-use Rattle.blocks.specs.View.{known, view}
+use Rattle.blocks.specs.View.{known}
 use Rattle.blocks.proofs.Entries.{length-trees}
 use Rattle.blocks.proofs.Views.{view_kept}
 use Rattle.blocks.proofs.state.State.share.Goals as goal

@@ -1,4 +1,4 @@
-use Rattle.std.proofs.Common.{get_or, ap, ◌∙◌}
+use Rattle.std.proofs.Common.{ap, ◌∙◌}
 use Rattle.std.proofs.lemmas.List.{get_or_default, drop_all}
 use Rattle.rules.specs.Cards.{Block, entry, starts?}
 use Rattle.blocks.proofs.Entering.{entry-none, entry_here, entry_more}

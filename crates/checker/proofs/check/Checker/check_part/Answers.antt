@@ -1,4 +1,4 @@
-use Rattle.std.proofs.Common.{ℕ, ◌+◌, ◌<◌, List, length, take, vec_items, subst, arith, rules}
+use Rattle.std.proofs.Common.{ℕ, ◌+◌, ◌<◌, List, length, vec_items, subst, arith, rules}
 use Rattle.std.proofs.lemmas.List.{take_all}
 use Rattle.rules.specs.Limits.{in_force}
 use Rattle.rules.specs.Block.{behind, card_at, BlockJudged}

@@ -1,4 +1,4 @@
-use Rattle.std.proofs.Common.{ℕ, List, map, ap, ◌∙◌, rules}
+use Rattle.std.proofs.Common.{ℕ, List, map, ap, ◌∙◌}
 use Rattle.std.specs.List.{range_with_len}
 use Rattle.isa.specs.Layout.{kind_at, word}
 use Rattle.rules.specs.Words.{module_of}
