@@ -3,7 +3,7 @@
 # Rust (plain.rs), both built for release, turn about in one run. The best of five turns counts.
 set -eu
 cd "$(dirname "$0")/.."
-(cd crates/speed && rt run >/dev/null)
+(cd crates/speed && rt run >/dev/null 2>&1)
 speed=crates/speed/out/speed
 work=$(mktemp -d)
 trap 'rm -rf "$work"' EXIT
