@@ -80,7 +80,7 @@ impl Compiler {
         ensures built { (P : Tree) → Small self.old.reader.plan.nodes.items self.old.reader.plan.statements.items P → Built P out.old out.new result }
     {
         let plan = self.reader.plan();
-        self.lines.select(self.halves.as_mut_slice(), plan.nodes(), plan.statements());
+        self.lines.select_plan(self.halves.as_mut_slice(), plan.nodes(), plan.statements());
         write_module(out, self.lines.lines.as_slice(), self.lines.entry)
     }
 

@@ -3,6 +3,7 @@
 #![tactic(auto)]
 
 pub mod access;
+mod any_tables;
 pub mod compile;
 pub mod double;
 mod emit;

@@ -16,7 +16,7 @@ use plan::tree::{Node, Statement};
 
 impl Lines {
     // The six variables start at 0.
-    fn start(&mut self)
+    pub(crate) fn start(&mut self)
         requires { vec_len self.old.lines ≡ 0 }
         ensures { Adds self.old self.new (zeros 6) 6 }
     {
@@ -37,7 +37,7 @@ impl Lines {
     // A REPEAT, behind the code of its count: the count goes to the counter; the head, a block of its
     // own, goes to the exit once the counter is 0. The exit stands behind the body and the four lines
     // of the END.
-    fn repeat(&mut self, counter: Twin, body: u32)
+    pub(crate) fn repeat(&mut self, counter: Twin, body: u32)
         requires low { counter.number < 10 }
         requires small { body ≤ 1024 }
         requires room { vec_len self.old.lines + 3 ≤ 511 }
@@ -53,7 +53,7 @@ impl Lines {
 
     // An END: counts down and goes back to the head, which stands two lines before the body. The exit
     // is a block of its own.
-    fn end(&mut self, counter: Twin, body: u32)
+    pub(crate) fn end(&mut self, counter: Twin, body: u32)
         requires far { body + 4 ≤ 2 * vec_len self.old.lines }
         requires room { vec_len self.old.lines + 4 ≤ 511 }
         ensures { Adds self.old self.new (closed_by counter.number (vec_len self.old.lines) body) 4 }
@@ -116,7 +116,12 @@ impl Lines {
     }
 
     // The code of a plan, but for the halt behind it.
-    pub(crate) fn select(&mut self, slots: &mut [Half], nodes: &[Node], statements: &[Statement])
+    pub(crate) fn select_plan(
+        &mut self,
+        slots: &mut [Half],
+        nodes: &[Node],
+        statements: &[Statement],
+    )
         requires closed { Closed nodes.now }
         requires small { (P : Plan) × Small nodes.now statements.now P }
         requires slots { 1024 ≤ length slots.old }

@@ -1,7 +1,7 @@
 use Rattle.std.proofs.Common.{◌≡◌, drop, vec_len}
 use Rattle.compiler.specs.Emitting.{sofar}
 use Rattle.compiler.proofs.Flattened.{flat, AllSound}
-use Rattle.compiler.proofs.lines.Lines.select.Given as goal
+use Rattle.compiler.proofs.lines.Lines.select_plan.Given as goal
 
 abbrev pub invariant-loop-i : goal.invariant-loop-i
 invariant-loop-i l =

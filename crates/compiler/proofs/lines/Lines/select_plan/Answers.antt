@@ -3,7 +3,7 @@ use Rattle.std.proofs.lemmas.List.{drop_all}
 use Rattle.compiler.specs.Emitting.{Coming, emitted, sofar, zeros, lasts, next_counter}
 use Rattle.compiler.proofs.Adding.{emitted-stop}
 use Rattle.compiler.proofs.Flattened.{flat, AllSound, flat_more, sound_more, all_of, flat_whole}
-use Rattle.compiler.proofs.lines.Lines.select.Goals as goal
+use Rattle.compiler.proofs.lines.Lines.select_plan.Goals as goal
 
 pub loop-i-init : goal.loop-i-init
 loop-i-init c =
