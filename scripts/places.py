@@ -5,8 +5,9 @@
 
 Points: 1 own enums, flags and codes; 2 twins; 3 counted loops; 4 conversions, comparisons and printing by hand;
 5 repeated facts and parameters that travel together; 6 lengths and indices beside buffers; 7 switches on what to do;
-8 proofs. It goes by text: what it lists is to be read, and docs/DESIGN-PASS.md says what became of each.
-The crate of tests is left out but with --tests.
+8 proofs. It goes by text: what it lists is to be read, and docs/DESIGN-PASS.md says what became of each. A place
+with a line `// Stays: ..` beside it, which says why it stays as it is, is marked so. Tests are left out but with
+--tests.
 """
 import collections
 import pathlib
@@ -18,11 +19,25 @@ KEYWORDS = set("""as break const continue crate else enum fn for if impl in let 
 self Self static struct super trait type use where while true false Some None Ok Err u8 u16 u32 u64 u128 usize bool str
 Option Result Vec""".split())
 
+Function = collections.namedtuple("Function", "path name params result clauses body line public")
+# What was found, and the lines at which it stands.
+Found = collections.namedtuple("Found", "text spots")
 
-def sources(tests):
-    for path in sorted(TOP.glob("crates/*/src/**/*.rt")):
-        if tests or path.relative_to(TOP).parts[1] != "examples":
-            yield path.relative_to(TOP), re.sub(r"//[^\n]*", "", path.read_text())
+
+class Source:
+    """A file of Rattle: its text without comments, and the lines that have a reason beside them."""
+
+    def __init__(self, path):
+        self.path = path.relative_to(TOP)
+        raw = path.read_text()
+        self.text = re.sub(r"//[^\n]*", "", raw)
+        self.reasons = [i + 1 for i, line in enumerate(raw.split("\n")) if "// Stays:" in line]
+
+    def line(self, at):
+        return self.text.count("\n", 0, at) + 1
+
+    def spot(self, at):
+        return (self.path, self.line(at))
 
 
 def closing(text, at):
@@ -38,258 +53,236 @@ def closing(text, at):
     return len(text)
 
 
-Function = collections.namedtuple("Function", "path name params result clauses body line public")
-
-
-def functions(tests):
-    for path, text in sources(tests):
-        for m in re.finditer(r"(pub(?:\([a-z]+\))? )?fn (\w+)", text):
-            if "ghost" in text[text.rfind("\n", 0, m.start()) + 1 : m.start()]:
-                continue
-            at = m.end()
-            if at < len(text) and text[at] == "<":
-                depth = 0
-                while True:
-                    if text[at] == "<":
-                        depth += 1
-                    elif text[at] == ">" and text[at - 1] != "-":
-                        depth -= 1
-                        if depth == 0:
-                            at += 1
-                            break
-                    at += 1
-            if at >= len(text) or text[at] != "(":
-                continue
-            end = closing(text, at)
-            params = text[at + 1 : end - 1]
-            rest = text[end:]
-            m2 = re.match(r"\s*(?:->\s*(.*?))?\s*(?=\n\s*(?:requires|ensures|where)|\{|;)", rest, re.S)
-            result = (m2.group(1) or "") if m2 else ""
-            at = end + (m2.end() if m2 else 0)
-            clauses = []
-            while True:
-                m3 = re.compile(r"\s*(requires|ensures\*?|decreases)( \w+)? (?=\{)").match(text, at)
-                if not m3:
-                    break
-                stop = closing(text, m3.end())
-                clauses.append((m3.group(1), (m3.group(2) or "").strip(), text[m3.end() + 1 : stop - 1].strip()))
-                at = stop
-            m4 = re.compile(r"\s*\{").match(text, at)
-            body = text[m4.end() : closing(text, m4.end() - 1) - 1] if m4 else ""
-            line = text.count("\n", 0, m.start()) + 1
-            yield Function(path, m.group(2), split(params), result.strip(), clauses, body, line, bool(m.group(1)))
-
-
-def split(params):
-    out, depth, last = [], 0, ""
-    for c in params:
-        if c in "([{<":
-            depth += 1
-        elif c in ")]}>":
-            depth -= 1
+def split(text):
+    """The parts of a text between commas that no bracket encloses."""
+    parts, depth, last = [], 0, ""
+    for c in text:
+        depth += (c in "([{<") - (c in ")]}>")
         if c == "," and depth == 0:
-            out.append(last)
+            parts.append(last)
             last = ""
         else:
             last += c
-    out.append(last)
-    return [re.sub(r"\s+", " ", p).strip() for p in out if p.strip()]
+    return [re.sub(r"\s+", " ", p).strip() for p in parts + [last] if p.strip()]
 
 
-def enums(tests):
-    for path, text in sources(tests):
-        for m in re.finditer(r"\benum (\w+)[^{;]*\{", text):
-            body = text[m.end() : closing(text, m.end() - 1) - 1]
-            variants, depth, last = [], 0, ""
-            for c in body:
-                depth += (c in "({[<") - (c in ")}]>")
-                if c == "," and depth == 0:
-                    variants.append(last.strip())
-                    last = ""
-                else:
-                    last += c
-            variants.append(last.strip())
-            yield path, m.group(1), [v for v in variants if v], text.count("\n", 0, m.start()) + 1
+def behind_generics(text, at):
+    if not text.startswith("<", at):
+        return at
+    depth = 0
+    while True:
+        depth += (text[at] == "<") - (text[at] == ">" and text[at - 1] != "-")
+        at += 1
+        if depth == 0:
+            return at
 
 
-def own_enums(tests):
-    for path, name, variants, line in enums(tests):
-        bare = [v for v in variants if re.fullmatch(r"\w+", v)]
-        if len(variants) == 2 and len(bare) == 1:
-            yield f"{path}:{line} enum {name}: {', '.join(variants)}"
-        elif any(re.match(r"(Refused|Unfit|Err\w*|Failed)\b", v) for v in variants) and len(bare) != len(variants):
-            yield f"{path}:{line} enum {name} has good and bad answers"
-    for f in functions(tests):
-        if f.result == "bool" and any("&mut " in p for p in f.params):
-            yield f"{f.path}:{f.line} fn {f.name} answers bool beside what it changes"
-        arms = re.findall(r"=>\s*([^,]+),", f.body)
-        if re.fullmatch(r"u\d+|usize", f.result) and len(arms) > 1 and sum(a.strip().isdigit() for a in arms) >= 2:
-            yield f"{f.path}:{f.line} fn {f.name} gives numbers for kinds"
-        if len(re.findall(r"^\s*[0-9]+(?:\.\.=[0-9]+)? => ", f.body, re.M)) >= 2 and "::" in f.body:
-            yield f"{f.path}:{f.line} fn {f.name} gives kinds for numbers"
-        if re.fullmatch(r"\(?(?:u8(?:, )?)+\)?", f.result) and f.public and not f.params:
-            yield f"{f.path}:{f.line} fn {f.name} answers {f.result}"
-    for path, text in sources(tests):
-        for m in re.finditer(r"^    (?:pub(?:\(\w+\))? )?(\w+): (bool|Option<u32>),", text, re.M):
-            yield f"{path}:{text.count(chr(10), 0, m.start()) + 1} field {m.group(1)}: {m.group(2)}"
+def functions(source):
+    text = source.text
+    for m in re.finditer(r"(pub(?:\([a-z]+\))? )?fn (\w+)", text):
+        at = behind_generics(text, m.end())
+        if not text.startswith("(", at):
+            continue
+        end = closing(text, at)
+        answer = re.match(r"\s*(?:->\s*(.*?))?\s*(?=\n\s*(?:requires|ensures|where)|\{|;)", text[end:], re.S)
+        at, clauses = end + (answer.end() if answer else 0), []
+        while True:
+            clause = re.compile(r"\s*(requires|ensures\*?|decreases)( \w+)? (?=\{)").match(text, at)
+            if not clause:
+                break
+            at = closing(text, clause.end())
+            clauses.append((clause.group(1), text[clause.end() + 1 : at - 1].strip()))
+        brace = re.compile(r"\s*\{").match(text, at)
+        body = text[brace.end() : closing(text, brace.end() - 1) - 1] if brace else ""
+        yield Function(
+            source.path,
+            m.group(2),
+            split(text[text.index("(", behind_generics(text, m.end())) + 1 : end - 1]),
+            (answer.group(1) or "").strip() if answer else "",
+            clauses,
+            body,
+            source.line(m.start()),
+            bool(m.group(1)),
+        )
+
+
+def enums(source):
+    for m in re.finditer(r"\benum (\w+)[^{;]*\{", source.text):
+        yield m.group(1), split(source.text[m.end() : closing(source.text, m.end() - 1) - 1]), source.spot(m.start())
+
+
+def at(f):
+    return [(f.path, f.line)]
+
+
+def own_enums(sources):
+    for source in sources:
+        for name, variants, spot in enums(source):
+            bare = [v for v in variants if re.fullmatch(r"\w+", v)]
+            if len(variants) == 2 and len(bare) == 1:
+                yield Found(f"enum {name} {{ {', '.join(variants)} }}", [spot])
+            elif any(re.match(r"(Refused|Unfit|Err\w*|Failed)\b", v) for v in variants) and len(bare) != len(variants):
+                yield Found(f"enum {name} has good and bad answers", [spot])
+        for f in functions(source):
+            arms = [a.strip() for a in re.findall(r"=>\s*([^,]+),", f.body)]
+            if f.result == "bool" and any("&mut " in p for p in f.params):
+                yield Found(f"fn {f.name} answers bool beside what it changes", at(f))
+            if re.fullmatch(r"u\d+|usize", f.result) and "match self" in f.body and sum(a.isdigit() for a in arms) >= 2:
+                yield Found(f"fn {f.name} gives numbers for kinds", at(f))
+            if len(re.findall(r"^\s*[0-9]+(?:\.\.=[0-9]+)? => ", f.body, re.M)) >= 2 and "::" in f.body:
+                yield Found(f"fn {f.name} gives kinds for numbers", at(f))
+            if re.fullmatch(r"\(?(?:u8(?:, )?)+\)?", f.result) and f.public and not f.params:
+                yield Found(f"fn {f.name} answers {f.result} and carries a theorem", at(f))
+        for m in re.finditer(r"^    (?:pub(?:\(\w+\))? )?(\w+): (bool|Option<u32>),", source.text, re.M):
+            yield Found(f"{m.group(1)}: {m.group(2)}", [source.spot(m.start())])
 
 
 def shape(body):
     words = re.findall(r"'?\w+|[^\s\w]", body)
-    return " ".join("n" if re.fullmatch(r"\d\w*", w) else w if w in KEYWORDS or not re.fullmatch(r"\w+", w) else "x" for w in words)
+    return ["n" if w[0].isdigit() else w if w in KEYWORDS or not re.fullmatch(r"\w+", w) else "x" for w in words]
 
 
-def twins(tests):
+def twins(sources):
     groups = collections.defaultdict(list)
-    for f in functions(tests):
-        s = shape(f.body)
-        if len(s.split()) >= 12:
-            groups[s].append(f)
-    for group in groups.values():
+    for source in sources:
+        for f in functions(source):
+            crate = source.path.parts[1]
+            words = shape(f.body)
+            if len(words) >= 12:
+                groups["same shape", " ".join(words)].append(f)
+            elif re.fullmatch(r"\s*\d+\s*", f.body):
+                groups["a constant with a contract", f.body.strip()].append(f)
+            elif words:
+                groups["same name and body", (f.name, " ".join(f.body.split()))].append(f)
+            groups["beside each other", (crate, f.name.removeprefix("try_"))].append(f)
+    for (what, _), group in groups.items():
+        if what == "beside each other" and not any(f.name.startswith("try_") for f in group):
+            continue
+        if what == "same name and body" and (len({f.path for f in group}) == 1 or group[0].name in ("from", "fmt")):
+            continue
         if len(group) > 1:
-            yield "same shape: " + ", ".join(f"{f.path}:{f.name}" for f in group)
-    names = collections.defaultdict(list)
-    for f in functions(tests):
-        names[f.name.removeprefix("try_"), str(f.path).split("/")[1]].append(f)
-    for (name, crate), group in names.items():
-        if any(f.name.startswith("try_") for f in group) and len(group) > 1:
-            yield "beside each other: " + ", ".join(f"{f.path}:{f.name}" for f in group)
-    bodies = collections.defaultdict(list)
-    for f in functions(tests):
-        body = re.sub(r"\s+", " ", f.body).strip()
-        if body and not re.fullmatch(r"\d+", body):
-            bodies[f.name, body].append(f)
-        elif body:
-            bodies["a constant", body].append(f)
-    for (name, body), group in bodies.items():
-        if len({f.path for f in group}) > 1 and len(shape(body).split()) < 12 and name not in ("from", "fmt"):
-            yield f"same body `{body[:40]}`: " + ", ".join(f"{f.path}:{f.name}" for f in group)
+            yield Found(f"{what}: " + ", ".join(f.name for f in group), [(f.path, f.line) for f in group])
 
 
-def counted_loops(tests):
-    for path, text in sources(tests):
+def counted_loops(sources):
+    for source in sources:
+        text = source.text
         for m in re.finditer(r"\b(while (?!let)[^{]*|for (\w+) in [^{]*\.\.[^{]*)\{", text):
             body = text[m.end() : closing(text, m.end() - 1) - 1]
-            line = text.count("\n", 0, m.start()) + 1
             head = re.sub(r"\s+", " ", m.group(1)).strip()
-            if m.group(2) is None:
-                yield f"{path}:{line} {head}"
-            elif re.search(r"\[[^\]]*\b%s\b[^\]]*\]" % m.group(2), body) or re.search(r"\b(slot|item)\(%s\b" % m.group(2), body):
-                yield f"{path}:{line} {head}: indexes by {m.group(2)}"
-        for m in re.finditer(r"let mut (\w+) = 0\w*;", text):
-            part = text[m.end() : m.end() + 700]
-            if re.search(r"\b(for|while)\b", part) and re.search(r"\b%s (\+= 1|= %s\.saturating_add\(1\))" % (m.group(1), m.group(1)), part):
-                yield f"{path}:{text.count(chr(10), 0, m.start()) + 1} counts {m.group(1)} by hand"
+            by = r"\[[^\]]*\b%s\b[^\]]*\]|\b(?:slot|item)\(%s\b" % (m.group(2), m.group(2))
+            if m.group(2) is None or re.search(by, body):
+                yield Found(head, [source.spot(m.start())])
+        for m in re.finditer(r"let mut (\w+) = [01]\w*;", text):
+            part, name = text[m.end() : m.end() + 700], m.group(1)
+            if re.search(r"\b(?:for|while)\b", part) and re.search(r"\b%s (?:\+= 1|= %s\.saturating_add\(1\))" % (name, name), part):
+                yield Found(f"{name} counted", [source.spot(m.start())])
 
 
-PASSED_ON = [
-    (r"None => None\b", "an Option passed on by hand"),
-    (r"None => (?:false|return (?:false|None))", "None to false by hand"),
-    (r"Some\(_\) => true", "is_some by hand"),
-    (r"Some\((\w+)\) => Some\(\1\)", "an Option passed on by hand"),
-    (r"Some\((\w+)\) => \1,\s*\n\s*None => ", "unwrap_or by hand"),
-    (r"Ok\((\w+|\(\))\) => Ok\(\1\)", "a Result passed on by hand"),
-    (r"Ok\(\(\)\) => \w+::\w+,", "a Result turned by hand"),
-    (r"Err\(_?\w*\) => Err\(", "an error turned by hand"),
-    (r"else \{\s*return None;", "`?` by hand"),
-    (r"let Some\([^)]*\) = [^;]*else \{\s*return Err\(", "ok_or by hand"),
-    (r"=> true,\s*\n?\s*[\w:(|) _]+ => (?:true|false),|=> true,\n\s*_ => false", "matches! by hand"),
-    (r"impl(?:<[^>]*>)? From<", "From by hand"),
+BY_HAND = [
+    (r"None => None\b", "an Option passed on"),
+    (r"None => (?:false|return (?:false|None))", "None to false"),
+    (r"Some\(_\) => true", "is_some"),
+    (r"Some\((\w+)\) => Some\(\1\)", "an Option passed on"),
+    (r"Some\((\w+)\) => \1,\s*\n\s*None => ", "unwrap_or"),
+    (r"Ok\((\w+|\(\))\) => Ok\(\1\)", "a Result passed on"),
+    (r"Ok\(\(\)\) => \w+::\w+,", "a Result turned"),
+    (r"Err\(_?\w*\) => Err\(", "an error turned"),
+    (r"else \{\s*return None;", "`?`"),
+    (r"let Some\([^)]*\) = [^;]*else \{\s*return Err\(", "ok_or"),
+    (r"=> true,\s*\n?\s*[\w:(|) _]+ => (?:true|false),|=> true,\n\s*_ => false", "matches!"),
+    (r"impl(?:<[^>]*>)? From<", "From"),
     (r"fn from_\w+\(", "a conversion of its own name"),
     (r"-> &'static str", "a name as text"),
-    (r"if same\(", "an equality of its own"),
+    (r"\bif same\(", "an equality of its own"),
 ]
 
 
-def by_hand(tests):
-    for path, text in sources(tests):
-        for pattern, what in PASSED_ON:
-            for m in re.finditer(pattern, text):
-                yield f"{path}:{text.count(chr(10), 0, m.start()) + 1} {what}"
+def by_hand(sources):
+    for source in sources:
+        for pattern, what in BY_HAND:
+            for m in re.finditer(pattern, source.text):
+                yield Found(what + " by hand", [source.spot(m.start())])
 
 
-def repeated(tests):
-    facts = collections.defaultdict(set)
-    together = collections.Counter()
-    where = collections.defaultdict(list)
-    for f in functions(tests):
-        crate = str(f.path).split("/")[1]
-        key = f"{f.path}:{f.name}"
-        names = [p.split(":")[0].replace("mut ", "").strip() for p in f.params]
-        for kind, _, fact in f.clauses:
-            if kind == "requires":
-                for p in names:
-                    if p not in ("self", "&self", "&mut self"):
-                        fact = re.sub(r"\b%s\b" % re.escape(p), "_", fact)
-                facts[crate, fact].add(key)
-        typed = sorted({re.sub(r"&'\w+ ", "&", re.sub(r"<'\w+>|<'_>", "", p.removeprefix("mut "))) for p in f.params if ":" in p and "HostRuntime" not in p})
-        for i, a in enumerate(typed):
-            for b in typed[i + 1 :]:
-                together[crate, a, b] += 1
-                where[crate, a, b].append(f.name)
-    for (crate, fact), keys in sorted(facts.items()):
-        if len(keys) >= 3:
-            yield f"{crate}: required by {len(keys)}: {fact}"
-    for (crate, a, b), n in sorted(together.items()):
-        if n >= 3:
-            yield f"{crate}: together in {n}: {a}, {b} ({', '.join(where[crate, a, b])})"
+def repeated(sources):
+    facts, together = collections.defaultdict(dict), collections.defaultdict(list)
+    for source in sources:
+        crate = source.path.parts[1]
+        for f in functions(source):
+            names = [p.split(":")[0].removeprefix("mut ").strip() for p in f.params if ":" in p]
+            for kind, fact in f.clauses:
+                for name in names:
+                    fact = re.sub(r"\b%s\b" % re.escape(name), "_", fact)
+                if kind == "requires":
+                    facts[crate, fact][f.path, f.line] = f.name
+            typed = {re.sub(r"&'\w+ ", "&", re.sub(r"<'\w+>|<'_>", "", p.removeprefix("mut "))) for p in f.params}
+            typed = sorted(p for p in typed if ":" in p and "HostRuntime" not in p)
+            for i, a in enumerate(typed):
+                for b in typed[i + 1 :]:
+                    together[crate, a, b].append(f)
+    for (crate, fact), places in sorted(facts.items()):
+        if len(places) >= 3:
+            yield Found(f"{crate}: {len(places)} require {fact}", list(places))
+    for (crate, a, b), group in sorted(together.items()):
+        if len(group) >= 3:
+            yield Found(f"{crate}: {a} and {b} in {', '.join(f.name for f in group)}", [(f.path, f.line) for f in group])
 
 
-def beside(tests):
-    for path, text in sources(tests):
-        for m in re.finditer(r"\bstruct (\w+)[^{;]*\{", text):
-            body = text[m.end() : closing(text, m.end() - 1) - 1]
-            line = text.count("\n", 0, m.start()) + 1
+def beside(sources):
+    for source in sources:
+        for m in re.finditer(r"\bstruct (\w+)[^{;]*\{", source.text):
+            body = source.text[m.end() : closing(source.text, m.end() - 1) - 1]
             for field in re.finditer(r"(\w+): usize", body):
-                yield f"{path}:{line} struct {m.group(1)} holds {field.group(1)}: usize"
-    for f in functions(tests):
-        if any(re.search(r"&mut \[", p) for p in f.params) and re.search(r"usize|u32", f.result):
-            yield f"{f.path}:{f.line} fn {f.name} fills a buffer and answers a length"
-        if any(re.search(r"&mut Vec<", p) for p in f.params):
-            yield f"{f.path}:{f.line} fn {f.name} fills a Vec beside what it goes with"
+                yield Found(f"struct {m.group(1)} holds {field.group(1)}: usize", [source.spot(m.start())])
+        for f in functions(source):
+            if any("&mut [" in p for p in f.params) and re.search(r"\busize|\bu32", f.result):
+                yield Found(f"fn {f.name} fills a buffer and answers a length", at(f))
+            if any("&mut Vec<" in p for p in f.params):
+                yield Found(f"fn {f.name} fills a Vec beside what it goes with", at(f))
 
 
-def switches(tests):
-    bare = {n for _, n, variants, _ in enums(tests) if all(re.fullmatch(r"\w+", v) for v in variants)}
-    for f in functions(tests):
-        for p in f.params:
-            m = re.fullmatch(r"(\w+): (\w+)", p)
-            if m and m.group(2) in bare and re.search(r"match %s\b" % m.group(1), f.body):
-                yield f"{f.path}:{f.line} fn {f.name} switches on {p}"
-    for path, text in sources(tests):
-        for m in re.finditer(r"\b(fn\([^)]*\)\s*->|\[fn\()", text):
-            yield f"{path}:{text.count(chr(10), 0, m.start()) + 1} a function in a table"
+def switches(sources):
+    bare = {name for s in sources for name, variants, _ in enums(s) if all(re.fullmatch(r"\w+", v) for v in variants)}
+    for source in sources:
+        for f in functions(source):
+            for p in f.params:
+                m = re.fullmatch(r"(\w+): (\w+)", p)
+                if m and m.group(2) in bare and re.search(r"match %s\b" % m.group(1), f.body):
+                    yield Found(f"fn {f.name} switches on {p}", at(f))
+        for m in re.finditer(r"\[fn\(|\[[^\]]*; \d+\] = \[\w+, \w+\b(?=[^\d])", source.text):
+            yield Found("functions in a table", [source.spot(m.start())])
 
 
-def proofs(tests):
+def proofs(_):
     for crate in sorted(p for p in (TOP / "crates").iterdir()):
-        answers = plain = files = lemmas = lines = 0
+        answers = bare = lemmas = lines = 0
         for path in sorted(crate.glob("proofs/**/*.antt")):
             text = path.read_text()
             lines += text.count("\n")
-            if path.name == "Answers.antt":
-                files += 1
-                for m in re.finditer(r"^pub ([^\s:]+) : goal\.", text, re.M):
-                    answers += 1
-                    body = re.search(r"^%s\b[^=\n]*= (.*)" % re.escape(m.group(1)), text[m.end() :], re.M)
-                    plain += bool(body and re.fullmatch(r"search (?:rules|\(rules(?:, [\w-]+)*\))", body.group(1).strip()))
-            elif path.name not in ("Invariants.antt", "Lib.antt", "Proof.antt"):
-                lemmas += 1
+            lemmas += path.parent.name == "proofs" and path.name != "Lib.antt"
+            for m in re.finditer(r"^pub ([^\s:]+) : goal\.", text, re.M) if path.name == "Answers.antt" else []:
+                answers += 1
+                body = re.search(r"^%s\b[^=\n]*= (.*)" % re.escape(m.group(1)), text[m.end() :], re.M)
+                bare += bool(body and re.fullmatch(r"search (?:rules|\(rules(?:, [\w-]+)*\))", body.group(1).strip()))
         if lines:
-            yield f"{crate.name}: {files} files with {answers} answers, {plain} of them a bare search; {lemmas} files of lemmas; {lines} lines"
+            yield Found(f"{crate.name}: {answers} answers, {bare} of them only a search; {lemmas} files of lemmas; {lines} lines", [])
 
 
 POINTS = [own_enums, twins, counted_loops, by_hand, repeated, beside, switches, proofs]
 
 
 def main():
+    paths = sorted(TOP.glob("crates/*/src/**/*.rt"))
     tests = "--tests" in sys.argv
-    wanted = [int(a) for a in sys.argv[1:] if a.isdigit()] or range(1, 9)
-    for point in wanted:
-        found = list(POINTS[point - 1](tests))
-        print(f"point {point}: {len(found)}")
-        for line in found:
-            print("  " + line)
+    sources = [Source(p) for p in paths if tests or p.relative_to(TOP).parts[1] != "examples"]
+    reasons = {s.path: s.reasons for s in sources}
+    for point in [int(a) for a in sys.argv[1:] if a.isdigit()] or range(1, 9):
+        found = list(POINTS[point - 1](sources))
+        stay = [any(0 <= line - r <= 9 or 0 < r - line <= 2 for path, line in f.spots for r in reasons[path]) for f in found]
+        print(f"point {point}: {len(found)} found, {sum(stay)} with a reason to stay")
+        for f, s in zip(found, stay):
+            print("  " + " ".join(([f"{f.spots[0][0]}:{f.spots[0][1]}"] if f.spots else []) + [f.text] + (["[stays]"] if s else [])))
 
 
 main()
