@@ -2,7 +2,7 @@
 use Rattle.std.specs.Prelude.{ℕ, suc, ◌≤◌, Bool, true, ◌&&◌, List, Some, None, Option, slice_index_or}
 use Rattle.blocks.specs.Trees.{Id, at}
 use Rattle.rules.specs.Expressions.{Expr, same?}
-use Rattle.rules.specs.Cards.{Slot, free, slot}
+use Rattle.rules.specs.Cards.{Slot}
 use Rattle.rules.specs.Notes.{Note, expr_of, has?, upd}
 
 -- the expression of each variable that came up
@@ -14,16 +14,16 @@ same_as? None e = true
 same_as? (Some f) e = same? e f
 
 abbrev pub meet_one? : Seen → Slot → Note → Bool
-meet_one? σ free n = true
-meet_one? σ (slot c v) n = has? c n && same_as? (σ v.number) (expr_of n)
+meet_one? σ None n = true
+meet_one? σ (Some (c, v)) n = has? c n && same_as? (σ v.number) (expr_of n)
 
 abbrev pub first_only : Option Expr → Seen → ℕ → Expr → Seen
 first_only None σ v e = upd σ v (Some e)
 first_only (Some f) σ v e = σ
 
 abbrev pub seen_next : Seen → Slot → Note → Seen
-seen_next σ free n = σ
-seen_next σ (slot c v) n = first_only (σ v.number) σ v.number (expr_of n)
+seen_next σ None n = σ
+seen_next σ (Some (c, v)) n = first_only (σ v.number) σ v.number (expr_of n)
 
 abbrev pub opt_in : List Expr → Option Id → Option Expr
 opt_in E None = None

@@ -2,6 +2,8 @@
 use isa::kinds::Arithmetic;
 
 // The place of an entry in the table.
+// Stays (6): a rule of the project: a call that judges takes no memory. So an expression is an entry that
+// refers to others, and not a tree of boxes; equal ones are one entry.
 #[derive(Clone, Copy, PartialEq)]
 pub struct Id {
     pub index: usize,

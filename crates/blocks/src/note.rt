@@ -2,15 +2,20 @@
 use crate::node::Id;
 use isa::kinds::Colour;
 
-// Nothing is known of a register, or it has an expression's value, as the copy of one colour computes it.
+// An expression, and the colour whose copy computes its value.
 #[derive(Clone, Copy)]
-pub enum Note {
-    Nothing,
-    Noted(Colour, Id),
+pub struct Noted {
+    pub colour: Colour,
+    pub expression: Id,
 }
 
+// What is known of a register: that it has an expression's value, or nothing.
+pub type Note = Option<Noted>;
+
 // A store that green has made and blue has not: it is pending.
-#[derive(Clone, Copy)]
+// Stays (2): no plainer: these are entries of a table, the machine's pairs are words, and no crate below both has
+// pairs.
+#[derive(Clone, Copy, PartialEq)]
 pub struct Pair {
     pub address: Id,
     pub word: Id,
@@ -18,6 +23,7 @@ pub struct Pair {
 
 // The jump that green has announced and blue has not made: none, to a place, or to a place if an
 // expression is 0.
+// Stays (1): a rule of the project: clear, jump and if are matched together with the instruction.
 #[derive(Clone, Copy)]
 pub enum Destination {
     Clear,

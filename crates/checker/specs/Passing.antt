@@ -1,4 +1,4 @@
--- What a pass points at, and what the check does to it.
+-- What a pass points at, and what the check answers.
 use Rattle.std.specs.Prelude.{◌≡◌, ℕ, List, [], ◌∷◌, Ok, Err, Result}
 use Rattle.rules.specs.Limits.{in_force}
 use Rattle.rules.specs.Words.{Passes}
@@ -18,7 +18,7 @@ abbrev pub Judged : List ℕ → Result (Unit {0}) CheckFault → Type 0
 Judged ws (Ok u) = Passes in_force ws
 Judged ws (Err f) = Faulty ws f
 
--- the pass is pointed at words that pass, or they are refused and it is as it was
-abbrev pub Checked : List ℕ → Result (Unit {0}) CheckFault → Pass → Pass → Type 0
-Checked ws (Ok u) before after = Passes in_force ws × (words_of after ≡ ws)
-Checked ws (Err f) before after = Faulty ws f × (after ≡ before)
+-- the words pass, and the pass is over them, or this is their first fault
+abbrev pub Checked : List ℕ → Result Pass CheckFault → Type 0
+Checked ws (Ok p) = Passes in_force ws × (words_of p ≡ ws)
+Checked ws (Err f) = Faulty ws f

@@ -4,7 +4,8 @@ ghost use Rattle.checker.specs.Faults.{number_of, place_of, lifted};
 
 use isa::layout::LayoutFault;
 
-#[derive(Clone, Copy)]
+// Stays (4): no plainer: with a fault of the layout inside, each match on a fault would be two deep.
+#[derive(Clone, Copy, Debug, PartialEq, Eq)]
 pub enum CheckFault {
     // Length, counts, operations or fields.
     Malformed,
@@ -27,6 +28,7 @@ impl From<LayoutFault> for CheckFault {
 
 impl CheckFault {
     // The fault's number.
+    // Stays (1): a rule of the project: hosts know a fault by its number.
     pub fn number(self) -> u32
         ensures { result ≡ number_of self }
     {

@@ -1,12 +1,14 @@
 -- The words of a plan's code in an output.
-use Rattle.std.proofs.Common.{◌≡◌, ℕ, ◌+◌, ◌-◌, ◌*◌, ◌≤◌, List, length, take, drop, sym, ap, ◌∙◌, subst, arith}
+use Rattle.std.proofs.Common.{◌≡◌, ℕ, ◌+◌, ◌-◌, ◌*◌, ◌≤◌, List, length, take, drop, vec_items, sym, ap, ◌∙◌, subst, arith}
 use Rattle.std.proofs.lemmas.List.{ext_get_or, get_or-drop, length-drop}
 use Rattle.rules.specs.Limits.{in_force as modules}
 use Rattle.rules.specs.Module.{size}
 use Rattle.language.specs.Limits.{Within, in_force}
 use Rattle.language.specs.Plans.{Plan}
+use Rattle.plan.specs.declared.tables.Plan.{Plan as Tables}
 use Rattle.plan.specs.declared.tree.Node.{Node}
 use Rattle.plan.specs.declared.tree.Statement.{Statement}
+use Rattle.plan.specs.Tables.{Closed}
 use Rattle.translation.specs.Code.{Code, build}
 use Rattle.translation.specs.Compile.{whole}
 use Rattle.translation.specs.Written.{Written}
@@ -17,9 +19,11 @@ use Rattle.compiler.specs.Compiling.{Built}
 use Rattle.compiler.specs.Laying.{words}
 use Rattle.compiler.specs.Selecting.{Small}
 
--- the same tables
-pub small_of : {ns ms : List Node} {ss us : List Statement} {P : Plan} → ns ≡ ms → ss ≡ us → Small ms us P → Small ns ss P
-small_of {ns = ns} {us = us} {P = P} e f s = subst (λ l. Small ns l P) (sym f) (subst (λ l. Small l us P) (sym e) s)
+-- the code that is selected for a compiler's tables is their plan's
+pub selected : {P : Plan} {ns : List Node} {ss : List Statement} {n : ℕ} {l : Code} (t : Tables) → Small (vec_items t.nodes) (vec_items t.statements) P → ns ≡ vec_items t.nodes → ss ≡ vec_items t.statements →
+    ((P : Plan) → Small ns ss P → Closed ns → 1024 ≤ n → l ≡ whole P) → n ≡ 1024 → l ≡ whole P
+selected {P = P} {ns = ns} t s e f select g =
+    select P (subst (λ ls. Small ns ls P) (sym f) (subst (λ ls. Small ls (vec_items t.statements) P) (sym e) s)) (subst Closed (sym e) t.closed) (omega (arith, g))
 
 -- a plan's code has few blocks
 pub few-blocks : (P : Plan) (l : Code) → Within in_force P → l ≡ whole P → length (build l).blocks ≤ 64

@@ -1,23 +1,13 @@
 -- The bytes of a card's words are those of its entries.
-use Rattle.std.proofs.Common.{◌≡◌, ℕ, zero, suc, ◌+◌, ◌*◌, ◌/◌, ◌%◌, ◌^◌, ◌<◌, Bool, true, false, cond, ltb, ◌⊎◌, get_or, sym, refl, ap, ◌∙◌, inl, inr, add-zero, arith}
+use Rattle.std.proofs.Common.{◌≡◌, ℕ, zero, suc, ◌+◌, ◌*◌, ◌/◌, ◌%◌, ◌^◌, ◌<◌, Bool, true, false, cond, ltb, ◌⊎◌, get_or, sym, refl, ap, ◌∙◌, inl, inr, arith, Some, None}
 use Rattle.std.proofs.lemmas.Bool.{cases_eq}
 use Rattle.isa.specs.Layout.{byte, slot_byte}
 use Rattle.rules.specs.Notes.{Colour, green, blue}
-use Rattle.rules.specs.Cards.{free, slot}
-use Rattle.translation.specs.Code.{twice}
 use Rattle.rules.specs.Words.{variable}
-use Rattle.translation.specs.Cards.{twin_slot, slots_from, card}
+use Rattle.translation.specs.Cards.{twin_slot, card}
+use Rattle.translation.proofs.Bytes.{card-at}
 use Rattle.translation.proofs.Twins.{half, side}
 use Rattle.compiler.specs.Laying.{card_word}
-
--- a register's entry is that of its twin in its colour
-slots_at : (t i m k : ℕ) → k < twice m → get_or (slots_from t i m) k free ≡ twin_slot t (i + half k) (side k)
-slots_at t i zero k h = absurd (omega arith)
-slots_at t i (suc m) zero h = ap (λ x. twin_slot t x green) (sym (add-zero i))
-slots_at t i (suc m) (suc zero) h = ap (λ x. twin_slot t x blue) (sym (add-zero i))
-slots_at t i (suc m) (suc (suc k)) h =
-    let e : suc i + half k ≡ i + suc (half k) = omega arith in
-    slots_at t (suc i) m k (omega arith) ∙ ap (λ x. twin_slot t x (side k)) e
 
 abbrev first : Colour → ℕ
 first green = 1
@@ -26,7 +16,7 @@ first blue = 129
 slot_byte_lem : (t x : ℕ) (c : Colour) → x < 32 → slot_byte (twin_slot t x c) ≡ cond (ltb x t) (x + first c) 0
 slot_byte_lem t x c h = go (ltb x t) c
   where
-    go : (b : Bool) (c : Colour) → slot_byte (cond b (slot c (variable x)) free) ≡ cond b (x + first c) 0
+    go : (b : Bool) (c : Colour) → slot_byte (cond b (Some (c, variable x)) None) ≡ cond b (x + first c) 0
     go true green = omega arith
     go true blue = omega arith
     go false c = refl
@@ -84,14 +74,13 @@ byte_3 i h false true = omega arith
 byte_3 i h false false = omega arith
 
 -- an entry by the twin and the colour of its register
-entry-byte : (t k x : ℕ) (c : Colour) → k < 32 → half k ≡ x → side k ≡ c → cond (ltb x t) (x + first c) 0 ≡ slot_byte (get_or (card t) k free)
+entry-byte : (t k x : ℕ) (c : Colour) → k < 32 → half k ≡ x → side k ≡ c → cond (ltb x t) (x + first c) 0 ≡ slot_byte (get_or (card t) k None)
 entry-byte t k x c h e s =
     let l : k / 2 < 16 = omega arith in
     let u : x < 32 = omega (arith, half_is k, sym e) in
-    let z : 0 + half k ≡ half k = omega arith in
-    sym (slot_byte_lem t x c u) ∙ ap (λ y. slot_byte (twin_slot t y c)) (sym e) ∙ ap (λ d. slot_byte (twin_slot t (half k) d)) (sym s) ∙ ap (λ y. slot_byte (twin_slot t y (side k))) (sym z) ∙ ap slot_byte (sym (slots_at t 0 16 k h))
+    sym (slot_byte_lem t x c u) ∙ ap (λ y. slot_byte (twin_slot t y c)) (sym e) ∙ ap (λ d. slot_byte (twin_slot t (half k) d)) (sym s) ∙ ap slot_byte (sym (card-at t k h))
 
-pub card-byte : (t k : ℕ) → k < 32 → byte (card_word t (k / 4)) (k % 4) ≡ slot_byte (get_or (card t) k free)
+pub card-byte : (t k : ℕ) → k < 32 → byte (card_word t (k / 4)) (k % 4) ≡ slot_byte (get_or (card t) k None)
 card-byte t k h = go (cases_eq (k % 4) 0) (cases_eq (k % 4) 1) (cases_eq (k % 4) 2)
   where
     q : ℕ
@@ -100,7 +89,7 @@ card-byte t k h = go (cases_eq (k % 4) 0) (cases_eq (k % 4) 1) (cases_eq (k % 4)
     w : ℕ
     w = card_word t (k / 4)
 
-    go : (k % 4 ≡ 0) ⊎ (k % 4 ≡ 0 → ⊥) → (k % 4 ≡ 1) ⊎ (k % 4 ≡ 1 → ⊥) → (k % 4 ≡ 2) ⊎ (k % 4 ≡ 2 → ⊥) → byte (card_word t (k / 4)) (k % 4) ≡ slot_byte (get_or (card t) k free)
+    go : (k % 4 ≡ 0) ⊎ (k % 4 ≡ 0 → ⊥) → (k % 4 ≡ 1) ⊎ (k % 4 ≡ 1 → ⊥) → (k % 4 ≡ 2) ⊎ (k % 4 ≡ 2 → ⊥) → byte (card_word t (k / 4)) (k % 4) ≡ slot_byte (get_or (card t) k None)
     go (inl e) f g =
         ap (byte (card_word t (k / 4))) e ∙ byte_0 (2 * (k / 4)) (omega arith) (ltb (2 * (k / 4)) t) (ltb (2 * (k / 4) + 1) t)
         ∙ entry-byte t k (2 * (k / 4)) green h (half_is k ∙ omega arith) (side_even k (omega arith))

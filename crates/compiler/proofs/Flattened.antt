@@ -1,7 +1,6 @@
 -- The code of a list of statements is the code of the plan that they are.
-use Rattle.std.proofs.Common.{◌≡◌, ℕ, suc, ◌+◌, ◌-◌, ◌*◌, ◌<◌, ◌≤◌, List, [], ◌∷◌, ◌++◌, length, get_or, drop, sym, refl, ap, ◌∙◌, subst, append_assoc, append-nil, add-one, arith}
+use Rattle.std.proofs.Common.{◌≡◌, ℕ, suc, ◌+◌, ◌-◌, ◌*◌, ◌≤◌, List, [], ◌∷◌, ◌++◌, sym, refl, ap, ◌∙◌, subst, append_assoc, append-nil, add-one, arith}
 use mathlib.Core.Path.{fun_ext}
-use Rattle.std.proofs.lemmas.List.{drop_more}
 use Rattle.isa.specs.declared.kinds.Arithmetic.TheVariants.{Sub}
 use Rattle.language.specs.Limits.{nodes, width, widest, depth, Within, in_force}
 use Rattle.language.specs.Plans.{Plan}
@@ -15,10 +14,6 @@ use Rattle.translation.specs.Compile as compile
 use Rattle.translation.proofs.Twins.{twice-is}
 use Rattle.translation.proofs.Standing.{over-is, past_is}
 use Rattle.compiler.specs.Emitting.{Coming, zeros, tree_of, stated, lasts, Sound, next_counter}
-
--- the first of the statements that are left
-pub first-is : (ss : List Statement) (i : ℕ) (s : Statement) → i < length ss → s ≡ get_or ss i s → drop i ss ≡ s ∷ drop (i + 1) ss
-first-is ss i s h e = drop_more ss i s h ∙ ap (λ y. y ∷ drop (i + 1) ss) (sym e)
 
 module _ (ns : List Node) where
   -- the code of statements at line p, with a halt behind it; c is the next counter
@@ -112,13 +107,6 @@ module _ (ns : List Node) where
         omega arith,
         subst (λ d. AllSound ((bs ++ (End n ∷ ss)) ++ rest) d (p + (nodes (tree_of ns e) + 3))) d-is (subst (AllSound ((bs ++ (End n ∷ ss)) ++ rest) (suc c)) q-is T),
       )
-
-  pub flat_more : (ss : List Statement) (i c p : ℕ) (s : Statement) → i < length ss → s ≡ get_or ss i s → flat (drop i ss) c p ≡ stated ns c p s (flat (drop (i + 1) ss) (next_counter c s) (p + lasts ns s))
-  flat_more ss i c p s h e = ap (λ l. flat l c p) (first-is ss i s h e)
-
-  pub sound_more : (ss : List Statement) (i c p : ℕ) (s : Statement) → i < length ss → s ≡ get_or ss i s → AllSound (drop i ss) c p →
-      (Sound ns c p s) × (p + lasts ns s ≤ 511) × AllSound (drop (i + 1) ss) (next_counter c s) (p + lasts ns s)
-  sound_more ss i c p s h e S = subst (λ l. AllSound l c p) (first-is ss i s h e) S
 
   -- a whole plan
   pub all_of : {ss : List Statement} {P : Plan} → Lists ns ss P → Within in_force P → AllSound ss 6 6

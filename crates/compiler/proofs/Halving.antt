@@ -1,5 +1,5 @@
 -- An expression emitted half by half.
-use Rattle.std.proofs.Common.{◌≡◌, ℕ, ◌+◌, ◌≤◌, List, [], ◌∷◌, ◌++◌, length, sym, refl, ap, ◌∙◌, subst, add-one, arith}
+use Rattle.std.proofs.Common.{◌≡◌, ℕ, ◌+◌, ◌<◌, ◌≤◌, List, [], ◌∷◌, ◌++◌, length, sym, refl, ap, ◌∙◌, subst, add-one, arith}
 use Rattle.std.proofs.lemmas.List.{append-nil, append_assoc}
 use Rattle.isa.specs.declared.kinds.Arithmetic.{Arithmetic}
 use Rattle.language.specs.Limits.{nodes, width}
@@ -30,6 +30,10 @@ two b i j x y p q = q ∙ ap (λ l. l ++ (y ∷ [])) p ∙ append_assoc b (x ∷
 
 pub three : (b i j k : List Half) (x y z : Half) → i ≡ b ++ (x ∷ []) → j ≡ i ++ (y ∷ []) → k ≡ j ++ (z ∷ []) → k ≡ b ++ (x ∷ y ∷ z ∷ [])
 three b i j k x y z p q r = r ∙ ap (λ l. l ++ (z ∷ [])) (two b i j x y p q) ∙ append_assoc b (x ∷ y ∷ []) (z ∷ [])
+
+-- the first one on an empty stack
+pub alone : {b i : List Half} {h : Half} {n : ℕ} → b ≡ [] → 1 ≤ n → (length b < n → i ≡ b ++ (h ∷ [])) → i ≡ h ∷ []
+alone {h = h} empty some pushed = pushed (omega (arith, ap length empty, some)) ∙ ap (λ l. l ++ (h ∷ [])) empty
 
 module _ (ns : List Node) where
   pub some_weight : (h : Half) → 1 ≤ weight ns h
@@ -87,10 +91,14 @@ module _ (ns : List Node) where
         fits = fit_append rest g.parts (fit_front rest (h ∷ []) G.fits) g.fits;
       })
 
-  pub finished : (s t : Lines) (hs : List Half) (f : Coming → Coming) (n : ℕ) → hs ≡ [] → Going s t hs f n → Adds s t f n
-  finished s t hs f n e a =
-      let G : Going s t [] f n = subst (λ l. Going s t l f n) e a in
-      subst (Adds s t f) (omega (arith, G.lines)) (adds_same G.code G.adds)
+  -- once none is left, a node that was alone on the stack is done
+  pub finished : {s t : Lines} {hs first : List Half} {x : NodeId} {u : Twin} → first ≡ Whole x u ∷ [] → hs ≡ [] → Going s t hs (pending ns first) (total ns (line_count ns) first)
+      → Adds s t (computed u.number (tree_at ns x)) (nodes (tree_at ns x))
+  finished {s = s} {t = t} {hs = hs} {x = x} {u = u} first none a =
+      let P : List Half → Type 0 = λ l. Going s t hs (pending ns l) (total ns (line_count ns) l) in
+      let Q : List Half → Type 0 = λ l. Going s t l (pending ns (Whole x u ∷ [])) (total ns (line_count ns) (Whole x u ∷ [])) in
+      let G = subst Q none (subst P first a) in
+      subst (Adds s t (computed u.number (tree_at ns x))) (omega (arith, G.lines)) (adds_same G.code G.adds)
 
   -- all of a half's lines are emitted
   pub goes_whole : {s t : Lines} {before : List Half} {h : Half} {f : Coming → Coming} {n : ℕ} → Adds s t f n → n ≡ line_count ns h → ((K : Coming) → f K ≡ halved ns h K)

@@ -1,5 +1,5 @@
 -- The verdict on a text, from what the reader, the widths and the counts say.
-use Rattle.std.proofs.Common.{◌≡◌, ℕ, ◌<◌, ◌≤◌, true, false, ◌||◌, ltb, ◌⊎◌, List, map, length, take, Some, None, vec_items, sym, refl, ap, ◌∙◌, subst, inl, inr, arith}
+use Rattle.std.proofs.Common.{◌≡◌, ℕ, ◌<◌, ◌≤◌, true, false, ◌||◌, ltb, ◌⊎◌, List, map, length, take, Some, None, vec_items, sym, refl, ◌∙◌, subst, inl, inr, arith}
 use Rattle.std.proofs.lemmas.List.{take_all}
 use Rattle.std.proofs.lemmas.Bool.{ltb-true, ltb-false, or_cases, or_parts}
 use Rattle.language.specs.Limits.{widest, need, repeats}
@@ -13,7 +13,6 @@ use Rattle.plan.specs.declared.fault.ReadFault.{ReadFault}
 use Rattle.plan.specs.declared.fault.ReadFault.TheVariants as fault
 use Rattle.plan.specs.declared.fault.Layer.TheVariants.{Builder}
 use Rattle.plan.specs.declared.tables.Plan.{Plan as Tables}
-use Rattle.plan.specs.declared.tree.Node.{Node}
 use Rattle.plan.specs.Faults as read
 use Rattle.plan.specs.Plans.{needed}
 use Rattle.plan.specs.Reads.{Accepted, Faulty}
@@ -51,11 +50,12 @@ same-layer (fault.Mark m) = refl
 same-layer (fault.Grammar at) = refl
 same-layer (fault.Nesting at) = refl
 
-pub unread-is : (text : List ℕ) (room : ℕ) (e : ReadFault) → length text ≤ 8192 → 2626 ≤ room → Faulty (take 8192 text) e → Decided text room (refused (read.number e) (read.place e) (read.layer e))
+pub unread-is : (text : List ℕ) (room : ℕ) (e : ReadFault) → ltb 8192 (length text) ≡ false → ltb room 2626 ≡ false → Faulty (take 8192 text) e → Decided text room (refused (read.number e) (read.place e) (read.layer e))
 unread-is text room e short roomy f =
-    let F = subst (λ t. Faulty t e) (take_all 8192 text short) f in
+    let s = ltb-false 8192 (length text) short in
+    let F = subst (λ t. Faulty t e) (take_all 8192 text s) f in
     subst (λ l. Decided text room (refused (read.number e) (read.place e) l)) (same-layer e)
-    (unread short roomy (record { marks = F.marks; end = F.end; scanned = F.scanned; judged = F.judged }))
+    (unread s (ltb-false room 2626 roomy) (record { marks = F.marks; end = F.end; scanned = F.scanned; judged = F.judged }))
 
 -- what is known once the widths are measured
 pub record Seen (text : List ℕ) (room : ℕ) (t : Tables) (ws : List ℕ) : Type 0 where
@@ -65,12 +65,16 @@ pub record Seen (text : List ℕ) (room : ℕ) (t : Tables) (ws : List ℕ) : Ty
   pub long : length ws ≡ length (vec_items t.nodes)
   pub known : Measured (vec_items t.nodes) ws
 
--- over the tables as they were handed out
-pub seen : {text : List ℕ} {room : ℕ} {t p : Tables} {ws us : List ℕ} {ns : List Node} → length text ≤ 8192 → 2626 ≤ room → Accepted (take 8192 text) t →
-    p ≡ t → ns ≡ vec_items p.nodes → us ≡ ws → length us ≡ length ns → Measured ns ws → Seen text room t us
-seen {t = t} {us = us} {ns = ns} s r a e f g l m =
-    let h : ns ≡ vec_items t.nodes = f ∙ ap (λ x. vec_items x.nodes) e in
-    record { short = s; roomy = r; accepts = a; long = l ∙ ap length h; known = subst (λ x. Measured x us) h (subst (Measured ns) (sym g) m) }
+-- over the tables and the widths as they were handed out
+pub seen : {text : List ℕ} {room : ℕ} {t p : Tables} {ws us : List ℕ} → ltb 8192 (length text) ≡ false → ltb room 2626 ≡ false → Accepted (take 8192 text) t →
+    p ≡ t → us ≡ ws → length us ≡ length (vec_items p.nodes) → Measured (vec_items p.nodes) ws → Seen text room p us
+seen {text = text} {room = room} {p = p} s r a e g l m = record {
+  short = ltb-false 8192 (length text) s;
+  roomy = ltb-false room 2626 r;
+  accepts = subst (Accepted (take 8192 text)) (sym e) a;
+  long = l;
+  known = subst (Measured (vec_items p.nodes)) (sym g) m;
+}
 
 module _ (text : List ℕ) (room : ℕ) (t : Tables) (ws : List ℕ) (S : Seen text room t ws) where
   A : Accepted text t

@@ -1,5 +1,5 @@
 -- One line more of a module, and the whole of it.
-use Rattle.std.proofs.Common.{◌≡◌, ℕ, suc, ◌+◌, ◌-◌, ◌*◌, ◌<◌, ◌≤◌, List, [], ◌∷◌, length, get_or, drop, sym, refl, ap, ◌∙◌, subst, add-zero, arith}
+use Rattle.std.proofs.Common.{◌≡◌, ℕ, suc, ◌+◌, ◌*◌, ◌<◌, ◌≤◌, List, [], ◌∷◌, length, get_or, drop, Some, None, Option, sym, refl, ap, ◌∙◌, subst, add-zero, arith}
 use Rattle.isa.specs.declared.kinds.Colour.{Colour}
 use Rattle.isa.specs.declared.kinds.Colour.TheVariants.{Green, Blue}
 use Rattle.isa.specs.declared.kinds.Register.{Register}
@@ -13,13 +13,11 @@ use Rattle.compiler.specs.declared.twin.Twin.{Twin}
 use Rattle.compiler.specs.declared.line.Source.TheVariants.{Number, Copy, Operation, Cell}
 use Rattle.compiler.specs.declared.line.Single.{Single}
 use Rattle.compiler.specs.declared.line.Single.TheVariants.{Set, Store, Jump, Branch}
-use Rattle.compiler.specs.declared.line.Entry.{Entry}
-use Rattle.compiler.specs.declared.line.Entry.TheVariants.{Inside, Start}
 use Rattle.compiler.specs.declared.line.Line.{Line}
 use Rattle.compiler.specs.Doubling.{twin_register, dye}
 use Rattle.compiler.specs.Laying.{placed, entered, lined, opens, Back}
 use Rattle.compiler.specs.Listing.{single_of, entry_of, code_of}
-use Rattle.std.proofs.lemmas.List.{length-drop, drop_more, drop_all}
+use Rattle.std.proofs.lemmas.List.{drop_more}
 use Rattle.compiler.proofs.Forming.{formed}
 use Rattle.compiler.specs.Stages.{Good, Stage}
 use Rattle.compiler.proofs.Staging.{lay_kind, lay_block}
@@ -62,10 +60,10 @@ good c s h = record { back = h; formed = formed (dye c s) (dyed_low c s) }
 
 module _ (n : ℕ) (D : List Kind) (BS : List Block) (d : Block) (old : ℕ → ℕ) where
   -- the block that starts at line i, if one does
-  pub lay_entry : (f : ℕ → ℕ) (i p b : ℕ) (x : Entry) (ks : List Kind) (bs : List Block) → over.twice i ≡ p
+  pub lay_entry : (f : ℕ → ℕ) (i p b : ℕ) (x : Option ℕ) (ks : List Kind) (bs : List Block) → over.twice i ≡ p
       → Stage n D BS d old f p b ks (over.block_at i (entry_of x) bs) → Stage n D BS d old (entered f n b p x) p (b + opens x) ks bs
-  lay_entry f i p b Inside ks bs e S = let P : ℕ → Type 0 = λ c. Stage n D BS d old f p c ks bs in subst P (sym (add-zero b)) S
-  lay_entry f i p b (Start t) ks bs e S = lay_block n D BS d old f p b p t _ ks bs e refl S
+  lay_entry f i p b None ks bs e S = let P : ℕ → Type 0 = λ c. Stage n D BS d old f p c ks bs in subst P (sym (add-zero b)) S
+  lay_entry f i p b (Some t) ks bs e S = lay_block n D BS d old f p b p t _ ks bs e refl S
 
   -- line i
   pub lay_line : (f : ℕ → ℕ) (i b : ℕ) (l : Line) (rest : over.Code) → 2 * i + 1 < n → Back (dye Green l.single) → Back (dye Blue l.single)
@@ -86,29 +84,14 @@ module _ (n : ℕ) (D : List Kind) (BS : List Block) (d : Block) (old : ℕ → 
       let R : ℕ → Type 0 = λ p. Stage n D BS d old (lined f n b i l) (2 * (i + 1)) (b + opens x) (over.doubled rest) (over.blocks_from p rest) in
       subst R e (subst Q w v)
 
--- the code from line i on
-pub code_at : (ls : List Line) (x : Entry) (i : ℕ) (l : Line) → i < length ls → l ≡ get_or ls i l
-    → code_of (drop i ls) x ≡ over.line (entry_of l.entry) (single_of l.single) (code_of (drop (i + 1) ls) x)
-code_at ls x i l h e = ap (λ zs. code_of zs x) (drop_more ls i l h) ∙ ap (λ y. code_of (y ∷ drop (i + 1) ls) x) (sym e)
-
-pub code-end : (ls : List Line) (x : Entry) (i : ℕ) → length ls ≤ i → code_of (drop i ls) x ≡ over.stop (entry_of x)
-code-end ls x i h = ap (λ zs. code_of zs x) (drop_all i ls h)
-
-pub blocks_more : (x : Entry) (i : ℕ) (bs : List Block) → length (over.block_at i (entry_of x) bs) ≡ opens x + length bs
-blocks_more Inside i bs = omega arith
-blocks_more (Start t) i bs = omega arith
-
-module _ (n : ℕ) (D : List Kind) (BS : List Block) (d : Block) (old : ℕ → ℕ) where
-  -- no more blocks than there are
-  pub entry_fits : (f : ℕ → ℕ) (i p b : ℕ) (x : Entry) (ks : List Kind) (bs : List Block) → Stage n D BS d old f p b ks (over.block_at i (entry_of x) bs) → b + opens x ≤ length BS
-  entry_fits f i p b x ks bs S =
-      let e : length BS - b ≡ opens x + length bs = sym (length-drop b BS) ∙ ap length S.blocks_left ∙ blocks_more x i bs in
-      let l = S.few in
-      omega arith
-
   -- the halt
-  pub lay_end : (f : ℕ → ℕ) (i b : ℕ) (x : Entry) → 2 * i < n → Stage n D BS d old f (2 * i) b (over.doubled (over.stop (entry_of x))) (over.blocks_from i (over.stop (entry_of x)))
+  pub lay_end : (f : ℕ → ℕ) (i b : ℕ) (x : Option ℕ) → 2 * i < n → Stage n D BS d old f (2 * i) b (over.doubled (over.stop (entry_of x))) (over.blocks_from i (over.stop (entry_of x)))
       → Stage n D BS d old (placed (entered f n b (2 * i) x) (2 * i) kind.Halt) (2 * i + 1) (b + opens x) [] []
   lay_end f i b x h S =
       lay_kind n D BS d old (entered f n b (2 * i) x) (2 * i) (b + opens x) kind.Halt [] [] (record { back = refl; formed = refl }) h
-      (lay_entry n D BS d old f i (2 * i) b x (kind.Halt ∷ []) [] (twice-is i) S)
+      (lay_entry f i (2 * i) b x (kind.Halt ∷ []) [] (twice-is i) S)
+
+-- the code from line i on
+pub code_at : (ls : List Line) (x : Option ℕ) (i : ℕ) (l : Line) → i < length ls → l ≡ get_or ls i l
+    → code_of (drop i ls) x ≡ over.line (entry_of l.entry) (single_of l.single) (code_of (drop (i + 1) ls) x)
+code_at ls x i l h e = ap (λ zs. code_of zs x) (drop_more ls i l h) ∙ ap (λ y. code_of (y ∷ drop (i + 1) ls) x) (sym e)

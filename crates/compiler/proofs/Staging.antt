@@ -1,11 +1,11 @@
 -- A module as far as its words are laid.
-use Rattle.std.proofs.Common.{◌≡◌, ℕ, ◌+◌, ◌*◌, ◌/◌, ◌%◌, ◌<◌, ◌≤◌, true, ◌⊎◌, List, ◌∷◌, get_or, sym, refl, ap, ◌∙◌, subst, inl, inr, arith}
+use Rattle.std.proofs.Common.{◌≡◌, ℕ, ◌+◌, ◌*◌, ◌/◌, ◌%◌, ◌<◌, ◌≤◌, true, ◌⊎◌, List, ◌∷◌, get_or, sym, refl, ap, ◌∙◌, subst, inl, inr, arith, None}
 use Rattle.std.proofs.lemmas.Bool.{cases_eq, eq-eqb, ne_eqb, cond-true, cond-false}
 use Rattle.isa.specs.Words.{kind_of, well_formed, first_word, second_word}
 use Rattle.isa.specs.Layout.{byte, slot_byte}
 use Rattle.memory.specs.Cells.{replaced}
 use Rattle.rules.specs.Notes.{Kind, halt}
-use Rattle.rules.specs.Cards.{Block, free}
+use Rattle.rules.specs.Cards.{Block}
 use Rattle.translation.specs.Cards.{card}
 use Rattle.compiler.specs.Laying.{placed, blocked}
 use Rattle.compiler.specs.Stages.{kind_in, formed_in, Holds, Shows, Good, Stage}
@@ -112,7 +112,7 @@ module _ (n : ℕ) (D : List Kind) (BS : List Block) (d : Block) (old : ℕ → 
       this : Shows (blocked f n b s t) n b B
       this = record {
         start_is = es ∙ sym (blocked-start f n b s t);
-        bytes = λ k l. ap (λ K. slot_byte (get_or K k free)) ec ∙ sym (card-byte t k l)
+        bytes = λ k l. ap (λ K. slot_byte (get_or K k None)) ec ∙ sym (card-byte t k l)
             ∙ sym (ap (λ w. byte w (k % 4)) (carded-at (replaced f (2 + 2 * n + 9 * b) s) (3 + 2 * n + 9 * b) t 8 (k / 4) (omega arith)));
       }
 

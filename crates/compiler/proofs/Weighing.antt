@@ -1,6 +1,7 @@
 -- Which plans are narrow, and which expression is the first that is too wide.
 use Rattle.std.proofs.Common.{◌≡◌, ℕ, ◌<◌, ◌≤◌, max, Bool, true, false, cond, ltb, List, [], ◌∷◌, ◌++◌, map, length, get_or, Some, None, sym, refl, ap, ◌∙◌, subst, append_assoc, arith}
 use Rattle.std.proofs.lemmas.Bool.{ltb-true, ltb-false}
+use Rattle.std.proofs.lemmas.List.{map-append}
 use Rattle.language.specs.Limits.{width, widest, expressions}
 use Rattle.language.specs.Plans.{Tree, Plan, done, assign, store, again}
 use Rattle.plan.specs.declared.tree.Expression.{Expression}
@@ -48,10 +49,6 @@ pub not_narrow : {most at : ℕ} {es : List Tree} {bs : List ℕ} → FirstWide 
 not_narrow (here w) h = omega (arith, h.0)
 not_narrow (later w f) h = not_narrow f h.1
 
-map_both : {X Y : Type 0} (f : X → Y) (xs ys : List X) → map f (xs ++ ys) ≡ map f xs ++ map f ys
-map_both f [] ys = refl
-map_both f (x ∷ xs) ys = ap (λ l. f x ∷ l) (map_both f xs ys)
-
 parts_both : (ss us : List Statement) → all_parts (ss ++ us) ≡ all_parts ss ++ all_parts us
 parts_both [] us = refl
 parts_both (s ∷ ss) us = ap (λ l. parts s ++ l) (parts_both ss us) ∙ sym (append_assoc (parts s) (all_parts ss) (all_parts us))
@@ -85,7 +82,7 @@ module _ (ns : List Node) where
   expressions_are (a_repeat {t = t} {n = n} {bs = bs} {ss = ss} {b = B} {p = P} M D h L) =
       ap (λ u. u ∷ map (tree_of ns) (all_parts (bs ++ (End n ∷ ss)))) M.is
       ∙ ap (λ l. t ∷ map (tree_of ns) l) (parts_both bs (End n ∷ ss))
-      ∙ ap (λ l. t ∷ l) (map_both (tree_of ns) (all_parts bs) (all_parts ss) ∙ ap (λ l. l ++ map (tree_of ns) (all_parts ss)) (expressions_are D) ∙ ap (λ l. expressions B ++ l) (expressions_are L))
+      ∙ ap (λ l. t ∷ l) (map-append (tree_of ns) (all_parts bs) (all_parts ss) ∙ ap (λ l. l ++ map (tree_of ns) (all_parts ss)) (expressions_are D) ∙ ap (λ l. expressions B ++ l) (expressions_are L))
 
   module _ (ws : List ℕ) (long : length ws ≡ length ns) (known : Measured ns ws) where
     pub wide_is : (es : List Expression) (at : ℕ) → Inside es → first_wide ws es ≡ Some at → FirstWide 5 (map (tree_of ns) es) (map (λ e. e.place) es) at

@@ -1,5 +1,5 @@
 -- Inner: code over twins as it is emitted.
-use Rattle.std.specs.Prelude.{◌≡◌, ℕ, zero, suc, ◌+◌, ◌-◌, ◌*◌, ◌<◌, ◌≤◌, List, [], ◌∷◌, length, vec_items, vec_len}
+use Rattle.std.specs.Prelude.{◌≡◌, ℕ, zero, suc, ◌+◌, ◌-◌, ◌*◌, ◌<◌, ◌≤◌, List, [], ◌∷◌, length, Option, vec_items, vec_len}
 use Rattle.isa.specs.declared.kinds.Arithmetic.TheVariants.{Sub}
 use Rattle.language.specs.Limits.{nodes, width}
 use Rattle.language.specs.Plans.{Tree}
@@ -7,10 +7,10 @@ use Rattle.plan.specs.declared.tree.Expression.{Expression}
 use Rattle.plan.specs.declared.tree.Node.{Node}
 use Rattle.plan.specs.declared.tree.Statement.{Statement}
 use Rattle.plan.specs.declared.tree.Statement.TheVariants.{Let, Put, Repeat, End}
+use Rattle.plan.specs.Tables.{Closed}
 use Rattle.plan.specs.Trees.{tree_at}
 use Rattle.translation.specs.Code as over
 use Rattle.translation.specs.Compile.{expr}
-use Rattle.compiler.specs.declared.line.Entry.{Entry}
 use Rattle.compiler.specs.declared.line.Line.{Line}
 use Rattle.compiler.specs.declared.lines.Lines.{Lines}
 use Rattle.compiler.specs.Listing.{single_of, entry_of}
@@ -20,7 +20,7 @@ abbrev pub Coming : Type 0
 Coming = over.Entry → over.Code
 
 -- lines, and the code that comes behind them
-abbrev pub emitted : List Line → Entry → Coming → over.Code
+abbrev pub emitted : List Line → Option ℕ → Coming → over.Code
 emitted [] x K = K (entry_of x)
 emitted (l ∷ ls) x K = over.line (entry_of l.entry) (single_of l.single) (emitted ls x K)
 
@@ -31,6 +31,10 @@ sofar s K = emitted (vec_items s.lines) s.entry K
 pub record Adds (s t : Lines) (f : Coming → Coming) (n : ℕ) : Type 0 where
   pub code : (K : Coming) → sofar t K ≡ sofar s (f K)
   pub longer : vec_len t.lines ≡ vec_len s.lines + n
+
+-- the same where there is room for them: code has 511 lines at most
+abbrev pub Emits : Lines → Lines → (Coming → Coming) → ℕ → Type 0
+Emits s t f n = vec_len s.lines + n ≤ 511 → Adds s t f n
 
 -- one line
 abbrev pub one : over.Single → Coming → Coming
@@ -93,6 +97,13 @@ module _ (ns : List Node) where
   Sound c p (Put a e) = (Narrow a) × Narrow e
   Sound c p (Repeat e n) = (Narrow e) × (c < 10) × (n ≤ 1024)
   Sound c p (End n) = (6 < c) × (c ≤ 10) × (n + 4 ≤ 2 * p)
+
+  -- its code has room at line p, over so many slots, and the nodes are a plan's
+  pub record FitsStatement (slots c p : ℕ) (s : Statement) : Type 0 where
+    pub closed : Closed ns
+    pub sound : Sound c p s
+    pub room : p + lasts s ≤ 511
+    pub enough : 1024 ≤ slots
 
 -- the next counter behind a statement
 abbrev pub next_counter : ℕ → Statement → ℕ

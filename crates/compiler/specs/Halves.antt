@@ -1,7 +1,11 @@
 -- Nodes of which a part of the code is still to come: what the functions that emit an expression tell each other.
-use Rattle.std.specs.Prelude.{◌≡◌, ℕ, ◌+◌, ◌*◌, ◌<◌, ◌≤◌, List, [], ◌∷◌, ◌++◌, length}
+use Rattle.std.specs.Prelude.{◌≡◌, ℕ, ◌+◌, ◌*◌, ◌<◌, ◌≤◌, List, [], ◌∷◌, ◌++◌, length, vec_len}
+use Rattle.stack.specs.declared.slots.Stack.{Stack}
+use Rattle.stack.specs.Items.{items, room as slots_of}
 use Rattle.language.specs.Limits.{nodes, width}
 use Rattle.plan.specs.declared.tree.Node.{Node}
+use Rattle.plan.specs.declared.tree.NodeId.{NodeId}
+use Rattle.plan.specs.Tables.{Closed}
 use Rattle.plan.specs.Trees.{tree_at}
 use Rattle.translation.specs.Code as over
 use Rattle.compiler.specs.declared.half.Half.{Half}
@@ -46,6 +50,21 @@ module _ (ns : List Node) where
   abbrev pub AllFit : List Half → Type 0
   AllFit [] = Unit {0}
   AllFit (h ∷ hs) = Fit h × AllFit hs
+
+  -- it is taken apart where its lines and its parts have room, and the nodes are a plan's
+  pub record FitsHalf (s : Lines) (st : Stack Half) (h : Half) : Type 0 where
+    pub closed : Closed ns
+    pub fit : Fit h
+    pub room : vec_len s.lines + line_count h ≤ 511
+    pub slots : length (items st) + weight h ≤ slots_of st
+
+  -- an expression, at line p, for twin t, over so many slots
+  pub record FitsExpression (slots p t : ℕ) (x : NodeId) : Type 0 where
+    pub closed : Closed ns
+    pub inside : x.index < length ns
+    pub narrow : t + width (tree_at ns x) ≤ 16
+    pub room : p + nodes (tree_at ns x) ≤ 511
+    pub enough : 1024 ≤ slots
 
   -- of a half some lines are emitted, and the parts of the rest are put on the stack
   pub record Goes (s t : Lines) (before after : List Half) (h : Half) : Type 0 where

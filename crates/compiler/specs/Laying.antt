@@ -1,10 +1,8 @@
 -- Inner: the words of a module as they are laid into an output, which is a word for each index.
-use Rattle.std.specs.Prelude.{◌≡◌, ℕ, ◌+◌, ◌-◌, ◌*◌, ◌^◌, cond, ◌&&◌, List, nat_le, nat_lt, slice_index}
+use Rattle.std.specs.Prelude.{◌≡◌, ℕ, ◌+◌, ◌-◌, ◌*◌, ◌^◌, cond, ◌&&◌, List, Some, None, Option, nat_le, nat_lt, slice_index}
 use Rattle.isa.specs.declared.kinds.Kind.{Kind}
 use Rattle.isa.specs.Words.{kind_of, first_word, second_word}
 use Rattle.memory.specs.Cells.{replaced}
-use Rattle.compiler.specs.declared.line.Entry.{Entry}
-use Rattle.compiler.specs.declared.line.Entry.TheVariants.{Inside, Start}
 use Rattle.compiler.specs.declared.line.Line.{Line}
 use Rattle.isa.specs.declared.kinds.Colour.TheVariants.{Green, Blue}
 use Rattle.compiler.specs.Cards.{twin_bytes}
@@ -31,13 +29,13 @@ abbrev pub blocked : (ℕ → ℕ) → ℕ → ℕ → ℕ → ℕ → ℕ → �
 blocked f n b s t = carded (replaced f (2 + 2 * n + 9 * b) s) (3 + 2 * n + 9 * b) t 8
 
 -- block b if one starts at place p
-abbrev pub entered : (ℕ → ℕ) → ℕ → ℕ → ℕ → Entry → ℕ → ℕ
-entered f n b p Inside = f
-entered f n b p (Start t) = blocked f n b p t
+abbrev pub entered : (ℕ → ℕ) → ℕ → ℕ → ℕ → Option ℕ → ℕ → ℕ
+entered f n b p None = f
+entered f n b p (Some t) = blocked f n b p t
 
-abbrev pub opens : Entry → ℕ
-opens Inside = 0
-opens (Start t) = 1
+abbrev pub opens : Option ℕ → ℕ
+opens None = 0
+opens (Some t) = 1
 
 -- line i: the block that it starts, if it does, and its two instructions
 abbrev pub lined : (ℕ → ℕ) → ℕ → ℕ → ℕ → Line → ℕ → ℕ

@@ -4,6 +4,7 @@ pub mod Faults
 pub mod Listing
 pub mod Laying
 pub mod Stages
+pub mod Writing
 pub mod Emitting
 pub mod Halves
 pub mod Selecting

@@ -1,11 +1,9 @@
 -- Inner: the code over twins that a table of lines stands for.
-use Rattle.std.specs.Prelude.{ℕ, List, [], ◌∷◌}
+use Rattle.std.specs.Prelude.{ℕ, List, [], ◌∷◌, Some, None, Option}
 use Rattle.compiler.specs.declared.line.Source.{Source}
 use Rattle.compiler.specs.declared.line.Source.TheVariants.{Number, Copy, Operation, Cell}
 use Rattle.compiler.specs.declared.line.Single.{Single}
 use Rattle.compiler.specs.declared.line.Single.TheVariants.{Set, Store, Jump, Branch}
-use Rattle.compiler.specs.declared.line.Entry.{Entry}
-use Rattle.compiler.specs.declared.line.Entry.TheVariants.{Inside, Start}
 use Rattle.compiler.specs.declared.line.Line.{Line}
 use Rattle.translation.specs.Code as over
 
@@ -21,12 +19,12 @@ single_of (Store t u) = over.store t.number u.number
 single_of (Jump t) = over.jump t.number
 single_of (Branch t u) = over.branch t.number u.number
 
-abbrev pub entry_of : Entry → over.Entry
-entry_of Inside = over.inside
-entry_of (Start n) = over.start n
+abbrev pub entry_of : Option ℕ → over.Entry
+entry_of None = over.inside
+entry_of (Some n) = over.start n
 
 -- lines, and what stands before the halt behind them
-abbrev pub code_of : List Line → Entry → over.Code
+abbrev pub code_of : List Line → Option ℕ → over.Code
 code_of [] x = over.stop (entry_of x)
 code_of (l ∷ ls) x = over.line (entry_of l.entry) (single_of l.single) (code_of ls x)
 

@@ -1,9 +1,9 @@
 -- Inner: a module as far as its words are laid.
-use Rattle.std.specs.Prelude.{◌≡◌, ℕ, ◌+◌, ◌*◌, ◌/◌, ◌%◌, ◌<◌, ◌≤◌, Bool, true, List, [], length, drop, slice_index_or, refl}
+use Rattle.std.specs.Prelude.{◌≡◌, ℕ, ◌+◌, ◌*◌, ◌/◌, ◌%◌, ◌<◌, ◌≤◌, Bool, true, List, [], length, drop, slice_index_or, refl, None}
 use Rattle.isa.specs.Words.{kind_of, well_formed, first_word, second_word}
 use Rattle.isa.specs.Layout.{byte, slot_byte}
 use Rattle.rules.specs.Notes.{Kind, halt}
-use Rattle.rules.specs.Cards.{Block, free}
+use Rattle.rules.specs.Cards.{Block}
 use Rattle.rules.specs.Module.{Module}
 use Rattle.translation.specs.Cards.{card}
 
@@ -32,7 +32,7 @@ pub record Good (k : Kind) : Type 0 where
 -- block b is B
 pub record Shows (f : ℕ → ℕ) (n b : ℕ) (B : Block) : Type 0 where
   pub start_is : B.start ≡ start_in f n b
-  pub bytes : (k : ℕ) → k < 32 → slot_byte (slice_index_or B.card k free) ≡ byte_in f n b k
+  pub bytes : (k : ℕ) → k < 32 → slot_byte (slice_index_or B.card k None) ≡ byte_in f n b k
 
 -- p instructions of D and b blocks of BS are laid, ks and bs are still to come; n is the count of instructions
 pub record Stage (n : ℕ) (D : List Kind) (BS : List Block) (d : Block) (old f : ℕ → ℕ) (p b : ℕ) (ks : List Kind) (bs : List Block) : Type 0 where

@@ -27,8 +27,3 @@ first_wide ws (e ∷ es) = cond (nat_lt 5 (slice_index ws e.root.index)) (Some e
 abbrev pub widest_of : List ℕ → List Expression → ℕ
 widest_of ws [] = 0
 widest_of ws (e ∷ es) = max (slice_index ws e.root.index) (widest_of ws es)
-
--- the first of two
-abbrev pub either : Option ℕ → Option ℕ → Option ℕ
-either (Some x) o = Some x
-either None o = o

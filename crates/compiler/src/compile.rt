@@ -1,11 +1,12 @@
 // Compiling a text.
-ghost use Rattle.std.specs.Prelude.{◌≡◌, ◌<◌, ◌≤◌, length, IfOk, Err, OnErr, vec_len};
+ghost use Rattle.std.specs.Prelude.{◌≡◌, ◌<◌, ◌≤◌, length, IfOk, Err, OnErr};
 ghost use Rattle.language.specs.Plans.{Plan as Tree, done};
 ghost use Rattle.plan.specs.Reads.{Holds};
 ghost use Rattle.compiler.specs.Compiling.{Built, Compiles, Judges};
 ghost use Rattle.compiler.specs.Selecting.{Small};
 ghost use Rattle.compiler.specs.declared.fault.CompileFault.TheVariants.{LongText, ShortOutput};
 
+use crate::expression::HALVES;
 use crate::fault::CompileFault;
 use crate::half::Half;
 use crate::judge::{first_wide, too_large, too_long, too_short, widest};
@@ -18,13 +19,6 @@ use plan::limits::TEXT;
 use plan::reader::Reader;
 use std::alloc::{AllocError, Global};
 
-// Slots for the nodes of which a part of the code is still to come: a plan's need is at most 1,024.
-fn slots(heap: Global) -> Result<Vec<Half>, AllocError>
-    ensures { IfOk result (λ v. vec_len v ≡ 1024) }
-{
-    vec![in heap; Half::Load(Twin { number: 0 }); 1024]
-}
-
 impl Compiler {
     // A compiler with room for the longest text and the largest module.
     pub fn new(heap: Global) -> Result<Compiler, AllocError>
@@ -33,7 +27,8 @@ impl Compiler {
     {
         let reader = Reader::new(heap)?;
         let widths = Vec::with_capacity(heap, TEXT)?;
-        let halves = slots(heap)?;
+        // Slots for the nodes of which a part of the code is still to come, whatever they hold at first.
+        let halves = vec![in heap; Half::Load(Twin { number: 0 }); HALVES]?;
         let lines = Lines::new(heap)?;
         Ok(Compiler {
             reader,
@@ -59,19 +54,20 @@ impl Compiler {
         }
         self.reader.read(text)?;
         let plan = self.reader.plan();
-        measure(&mut self.widths, plan.nodes());
-        if let Some(place) = first_wide(self.widths.as_slice(), plan.statements()) {
+        measure(&mut self.widths, plan);
+        if let Some(place) = first_wide(&self.widths, plan) {
             return Err(CompileFault::Wide(place));
         }
         if too_large(plan) {
             return Err(CompileFault::Large);
         }
-        self.widest = widest(self.widths.as_slice(), plan.statements());
+        self.widest = widest(&self.widths, plan);
         Ok(())
     }
 
     // Writes the module of the plan that was read, which is judged before; answers the number of its
     // words.
+    // Stays (6): a rule of the project: the caller owns the module's words.
     fn build(&mut self, out: &mut [u32]) -> usize
         requires small { (P : Tree) × Small self.old.reader.plan.nodes.items self.old.reader.plan.statements.items P }
         requires room { 2626 ≤ length out.old }
@@ -80,12 +76,13 @@ impl Compiler {
         ensures built { (P : Tree) → Small self.old.reader.plan.nodes.items self.old.reader.plan.statements.items P → Built P out.old out.new result }
     {
         let plan = self.reader.plan();
-        self.lines.select_plan(self.halves.as_mut_slice(), plan.nodes(), plan.statements());
-        write_module(out, self.lines.lines.as_slice(), self.lines.entry)
+        self.lines.select(self.halves.as_mut_slice(), plan.nodes(), plan.statements());
+        write_module(out, &self.lines)
     }
 
     // Compiles a text: writes the words of a module to the output, leaves the rest of it, and answers
     // their number; or names the first fault, and writes nothing.
+    // Stays (6): a rule of the project: the caller owns the module's words.
     pub fn compile(&mut self, text: &[u8], out: &mut [u32]) -> Result<usize, CompileFault>
         ensures compiles { Compiles text.now out.old out.new self.new.reader.plan self.new.widest result }
         ensures kept { OnErr result (out.new ≡ out.old) }

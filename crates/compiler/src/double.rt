@@ -1,5 +1,6 @@
 // Doubling: each instruction over twins becomes a green and a blue one.
-ghost use Rattle.std.specs.Prelude.{◌≡◌, ◌+◌, ◌*◌, ◌<◌};
+ghost use Rattle.std.specs.Prelude.{◌≡◌, ◌+◌, ◌*◌, ◌<◌, ◌≤◌};
+ghost use Rattle.isa.specs.Registers.{registers};
 ghost use Rattle.compiler.specs.Doubling.{dye, set_kind, twin_register};
 
 use crate::line::{Single, Source};
@@ -24,28 +25,36 @@ impl Twin {
     }
 }
 
-// The instruction that sets a twin's register of one colour.
-fn set(colour: Colour, to: Register, source: Source) -> Instruction
+// The kind of the instruction that sets a twin's register of one colour.
+fn set(colour: Colour, to: Register, source: Source) -> Kind
     requires { to.number < 32 }
-    ensures { result.kind ≡ set_kind colour to source }
+    ensures kind { result ≡ set_kind colour to source }
+    ensures low { registers result ≤ 32 }
 {
     match source {
-        Source::Number(n) => Instruction {
-            kind: Kind::Move(colour, to, n),
-        },
-        Source::Copy(from) => Instruction {
-            kind: Kind::Copy(to, from.register(colour)),
-        },
+        Source::Number(n) => Kind::Move(colour, to, n),
+        Source::Copy(from) => Kind::Copy(to, from.register(colour)),
         Source::Operation(op, left, right) => {
-            let left = left.register(colour);
-            let right = right.register(colour);
-            Instruction {
-                kind: Kind::Arith(op, to, left, right),
-            }
+            Kind::Arith(op, to, left.register(colour), right.register(colour))
         }
-        Source::Cell(address) => Instruction {
-            kind: Kind::Load(colour, to, address.register(colour)),
-        },
+        Source::Cell(address) => Kind::Load(colour, to, address.register(colour)),
+    }
+}
+
+// The kind of one colour's half of an instruction over twins.
+fn half_kind(colour: Colour, single: Single) -> Kind
+    ensures kind { result ≡ dye colour single }
+    ensures low { registers result ≤ 32 }
+{
+    match single {
+        Single::Set(twin, source) => set(colour, twin.register(colour), source),
+        Single::Store(address, word) => {
+            Kind::Store(colour, address.register(colour), word.register(colour))
+        }
+        Single::Jump(target) => Kind::Jump(colour, target.register(colour)),
+        Single::Branch(condition, target) => {
+            Kind::Branch(colour, condition.register(colour), target.register(colour))
+        }
     }
 }
 
@@ -53,24 +62,7 @@ fn set(colour: Colour, to: Register, source: Source) -> Instruction
 pub fn half(colour: Colour, single: Single) -> Instruction
     ensures { result.kind ≡ dye colour single }
 {
-    match single {
-        Single::Set(twin, source) => set(colour, twin.register(colour), source),
-        Single::Store(address, word) => {
-            let address = address.register(colour);
-            let word = word.register(colour);
-            Instruction {
-                kind: Kind::Store(colour, address, word),
-            }
-        }
-        Single::Jump(target) => Instruction {
-            kind: Kind::Jump(colour, target.register(colour)),
-        },
-        Single::Branch(condition, target) => {
-            let condition = condition.register(colour);
-            let target = target.register(colour);
-            Instruction {
-                kind: Kind::Branch(colour, condition, target),
-            }
-        }
+    Instruction {
+        kind: half_kind(colour, single),
     }
 }

@@ -5,7 +5,7 @@ ghost use Rattle.compiler.specs.Faults.{number as number_of, place as place_of, 
 
 use plan::fault::{Layer, ReadFault};
 
-#[derive(Clone, Copy)]
+#[derive(Clone, Copy, Debug, PartialEq, Eq)]
 pub enum CompileFault {
     // The text has more bytes than allowed.
     LongText,
@@ -29,6 +29,7 @@ impl From<ReadFault> for CompileFault {
 
 impl CompileFault {
     // The number by which hosts know the fault.
+    // Stays (1): a rule of the project: hosts know a fault by its number.
     pub fn number(self) -> u8
         ensures { result ≡ number_of self }
     {

@@ -1,4 +1,5 @@
 // Nodes of which a part of the code is still to come.
+// Stays (7): a rule of the project: what is still to come of an expression lies on the stack as data.
 use crate::twin::Twin;
 use isa::kinds::Arithmetic;
 use plan::tree::NodeId;

@@ -1,9 +1,10 @@
 // Which texts and outputs are at fault by their lengths, and which plans by their widths or sizes.
-ghost use Rattle.std.specs.Prelude.{◌≡◌, ◌<◌, ◌≤◌, ◌||◌, List, ◌∷◌, ◌++◌, length, nat_lt};
+ghost use Rattle.std.specs.Prelude.{◌≡◌, ◌<◌, ◌≤◌, ◌||◌, List, ◌∷◌, ◌++◌, length, nat_lt, vec_len};
+ghost use Rattle.std.specs.Option.{option_or};
 ghost use Rattle.plan.specs.declared.tree.Expression.{Expression as Part};
 ghost use Rattle.plan.specs.Plans.{needed};
-ghost use Rattle.plan.specs.Tables.{roots, Rooted, parts, all_parts};
-ghost use Rattle.compiler.specs.Widths.{first_wide, either, widest_of};
+ghost use Rattle.plan.specs.Tables.{roots, parts, all_parts};
+ghost use Rattle.compiler.specs.Widths.{first_wide, widest_of};
 
 use isa::limits::{INSTRUCTIONS, MODULE_WORDS};
 use plan::limits::TEXT;
@@ -32,38 +33,33 @@ pub(crate) fn too_short(room: usize) -> bool
 // The byte at which an expression begins, if it is too wide.
 fn wide(widths: &[u32], e: Expression) -> Option<usize>
     requires { e.root.index < length widths.now }
-    ensures { (rest : List Part) → first_wide widths.now (e ∷ rest) ≡ either result (first_wide widths.now rest) }
+    ensures { (rest : List Part) → first_wide widths.now (e ∷ rest) ≡ option_or result (first_wide widths.now rest) }
 {
-    if widths[e.root.index] > WIDTH {
-        Some(e.place)
-    } else {
-        None
-    }
+    (widths[e.root.index] > WIDTH).then_some(e.place)
 }
 
 // The first expression of a statement that is too wide; an address comes before its word.
+// Stays (2): no plainer: one takes the first of a statement's expressions, `widest_part` the largest; a
+// list of them would be made for both.
 fn wide_part(widths: &[u32], statement: Statement) -> Option<usize>
     requires { roots statement ≤ length widths.now }
-    ensures { (rest : List Part) → first_wide widths.now (parts statement ++ rest) ≡ either result (first_wide widths.now rest) }
+    ensures { (rest : List Part) → first_wide widths.now (parts statement ++ rest) ≡ option_or result (first_wide widths.now rest) }
 {
     match statement {
-        Statement::Let(_, e) => wide(widths, e),
-        Statement::Put(address, word) => match wide(widths, address) {
-            Some(place) => Some(place),
-            None => wide(widths, word),
-        },
-        Statement::Repeat { count, body: _ } => wide(widths, count),
+        Statement::Let(_, e) | Statement::Repeat { count: e, body: _ } => wide(widths, e),
+        Statement::Put(address, word) => wide(widths, address).or(wide(widths, word)),
         Statement::End { body: _ } => None,
     }
 }
 
 // The first expression of a plan that is too wide, by the byte at which it begins.
-pub(crate) fn first_wide(widths: &[u32], statements: &[Statement]) -> Option<usize>
-    requires { Rooted (length widths.now) statements.now }
-    ensures { result ≡ first_wide widths.now (all_parts statements.now) }
+// Stays (3): tried `find_map`: the proof didn't close; left were that its closure may be called with each
+// statement, and that what is found is the first.
+pub(crate) fn first_wide(widths: &[u32], plan: &Plan) -> Option<usize>
+    requires { length widths.now ≡ vec_len plan.now.nodes }
+    ensures { result ≡ first_wide widths.now (all_parts plan.now.statements.items) }
 {
-    for i in 0..statements.len() {
-        let statement = statements[i];
+    for &statement in plan.statements() {
         if let Some(place) = wide_part(widths, statement) {
             return Some(place);
         }
@@ -72,26 +68,28 @@ pub(crate) fn first_wide(widths: &[u32], statements: &[Statement]) -> Option<usi
 }
 
 // The largest width of a statement's expressions.
+// Stays (2): no plainer: `wide_part` takes the first of them, this one the largest; a list of them would
+// be made for both.
 fn widest_part(widths: &[u32], statement: Statement) -> u32
     requires { roots statement ≤ length widths.now }
     ensures { result ≡ widest_of widths.now (parts statement) }
 {
     match statement {
-        Statement::Let(_, e) => widths[e.root.index],
+        Statement::Let(_, e) | Statement::Repeat { count: e, body: _ } => widths[e.root.index],
         Statement::Put(address, word) => widths[address.root.index].max(widths[word.root.index]),
-        Statement::Repeat { count, body: _ } => widths[count.root.index],
         Statement::End { body: _ } => 0,
     }
 }
 
 // The largest width of a plan's expressions.
-pub(crate) fn widest(widths: &[u32], statements: &[Statement]) -> u32
-    requires { Rooted (length widths.now) statements.now }
-    ensures { result ≡ widest_of widths.now (all_parts statements.now) }
+// Stays (3): tried `map` and `max`: the proof didn't close; left were what `max` requires, and that its
+// answer is the largest.
+pub(crate) fn widest(widths: &[u32], plan: &Plan) -> u32
+    requires { length widths.now ≡ vec_len plan.now.nodes }
+    ensures { result ≡ widest_of widths.now (all_parts plan.now.statements.items) }
 {
     let mut most = 0u32;
-    for i in 0..statements.len() {
-        let statement = statements[i];
+    for &statement in plan.statements() {
         most = most.max(widest_part(widths, statement));
     }
     most

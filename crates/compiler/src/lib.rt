@@ -3,7 +3,6 @@
 #![tactic(auto)]
 
 pub mod access;
-mod any_tables;
 pub mod compile;
 pub mod double;
 mod emit;
@@ -19,3 +18,4 @@ pub mod twin;
 pub mod unique;
 mod width;
 mod write;
+mod writer;

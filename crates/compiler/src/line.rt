@@ -24,16 +24,10 @@ pub enum Single {
     Branch(Twin, Twin),
 }
 
-// What stands before an instruction: nothing, or the start of a block, whose card gives the first
-// so many twins a variable each.
-#[derive(Clone, Copy)]
-pub enum Entry {
-    Inside,
-    Start(u8),
-}
-
 #[derive(Clone, Copy)]
 pub struct Line {
-    pub entry: Entry,
+    // The block that starts before the instruction, if one does: its card gives the first so many
+    // twins a variable each.
+    pub entry: Option<u8>,
     pub single: Single,
 }

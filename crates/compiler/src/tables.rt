@@ -10,7 +10,9 @@ use plan::reader::Reader;
 #[derive(Drop)]
 pub struct Compiler {
     pub(crate) reader: Reader,
+    // Stays (6): no plainer: the nodes beside the widths are the reader's table, which knows no widths.
     pub(crate) widths: Vec<u32>,
+    // Stays (6): a rule of the project: the stack stands over slots that are lent to it, and room is made once.
     pub(crate) halves: Vec<Half>,
     pub(crate) lines: Lines,
     pub(crate) widest: u32,

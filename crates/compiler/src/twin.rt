@@ -1,4 +1,6 @@
-ghost use Rattle.std.specs.Prelude.{◌<◌};
+ghost use Rattle.std.specs.Prelude.{◌≡◌, ◌+◌, ◌-◌, ◌<◌};
+
+use grammar::variable::Variable;
 
 // A pair of registers that hold the two copies of one word: twin i is green register 2i and blue
 // register 2i + 1.
@@ -13,3 +15,36 @@ pub struct Twin {
 pub const COUNTERS: u8 = 6;
 
 pub const VALUES: u8 = 10;
+
+// The last twin.
+const LAST: u8 = 15;
+
+impl From<Variable> for Twin {
+    ghost from_gives = { λ v t. t.number ≡ v.number };
+
+    fn from(variable: Variable) -> Twin {
+        Twin {
+            number: variable.number,
+        }
+    }
+}
+
+impl Twin {
+    // The one behind it; the last twin is followed by itself.
+    pub(crate) fn behind(self) -> Twin
+        ensures { self.number < 15 → result.number ≡ self.number + 1 }
+    {
+        Twin {
+            number: (self.number + 1).min(LAST),
+        }
+    }
+
+    // The one before it; before the first one stands itself.
+    pub(crate) fn before(self) -> Twin
+        ensures { result.number ≡ self.number - 1 }
+    {
+        Twin {
+            number: self.number.saturating_sub(1),
+        }
+    }
+}

@@ -1,19 +1,8 @@
 // That the rule for texts and outputs decides each of them once.
 ghost use Rattle.std.specs.Prelude.{◌≡◌};
-ghost use Rattle.marks.specs.Texts.{MarksAreUnique, JudgedOnce, TreeIsUnique};
 ghost use Rattle.compiler.specs.Deciding.{DecidedOnce};
 
 use marks::unique::marks_are_unique;
-
-// How many readings a text has.
-fn readings() -> u8
-    ensures one { result ≡ 1 }
-    ensures marks { MarksAreUnique }
-    ensures judged { JudgedOnce }
-    ensures tree { TreeIsUnique }
-{
-    marks_are_unique()
-}
 
 // How many verdicts a text and an output have: one, as a text has one reading. So the contract of
 // `compile` alone says what is accepted, as which plan, and what is refused, with which number, byte
@@ -22,5 +11,5 @@ pub fn verdicts_are_unique() -> u8
     ensures one { result ≡ 1 }
     ensures once { DecidedOnce }
 {
-    readings()
+    marks_are_unique()
 }

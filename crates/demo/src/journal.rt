@@ -1,25 +1,23 @@
-// A memory of the host's own: an array that remembers the last store.
-ghost use Rattle.std.specs.Prelude.{◌≡◌, length, nat_lt, slice_index};
+// A memory of the host's own: one that remembers the last store.
+use machine::queue::Pair;
+use memory::{Memory, NotWritable};
 
-use memory::{ArrayMemory, Memory, NotWritable};
-
+// Any memory, with the last store into it.
 #[derive(Drop)]
-pub struct Journal<'a> {
-    pub cells: ArrayMemory<'a>,
-    pub address: u32,
-    pub word: u32,
+pub struct Journal<M: Memory> {
+    pub under: M,
+    pub last: Option<Pair>,
 }
 
-impl Memory for Journal<'_> {
-    ghost cells = { λ m. record { word = λ at. slice_index m.cells.words.now at; writable = λ at. nat_lt at (length m.cells.words.now) } };
+impl<M: Memory> Memory for Journal<M> {
+    ghost cells = { λ m. M.Memory.cells m.under };
 
     fn load(&mut self, address: u32) -> u32 {
-        self.cells.load(address)
+        self.under.load(address)
     }
 
-    fn store(&mut self, address: u32, value: u32) -> Result<(), NotWritable> {
-        self.address = address;
-        self.word = value;
-        self.cells.store(address, value)
+    fn store(&mut self, address: u32, word: u32) -> Result<(), NotWritable> {
+        self.last = Some(Pair { address, word });
+        self.under.store(address, word)
     }
 }

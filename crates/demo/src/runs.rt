@@ -3,6 +3,7 @@ use crate::journal::Journal;
 use anyhow::anyhow;
 use checker::pass::Pass;
 use machine::ends::{End, Report};
+use machine::queue::Pair;
 use memory::{ArrayMemory, Memory};
 use simulator::simulator::Simulator;
 use simulator::simulator::calls::Shown;
@@ -22,13 +23,7 @@ const STRUCK_FROM: u32 = 5;
 
 const STRUCK_TO: u32 = 21;
 
-// A store that a run made.
-#[derive(Clone, Copy)]
-pub struct Made {
-    address: u32,
-    word: u32,
-}
-
+// Stays (4): no plainer: these words are the demo's own telling, and an end has only its number elsewhere.
 fn end_in_words(end: End) -> &'static str {
     match end {
         End::Going => "going on",
@@ -60,82 +55,84 @@ fn print_end(rt: &HostRuntime, shown: Shown) -> io::Result<()> {
     )
 }
 
-// Steps one by one to the end, and tells each store as it is made.
+// Steps one by one to the end, and tells each store as it is made; answers them.
 fn step_through(
     rt: &HostRuntime,
-    simulator: &mut Simulator<Journal<'_>>,
-    made: &mut Vec<Made>,
-) -> anyhow::Result<()> {
+    simulator: &mut Simulator<Journal<ArrayMemory<'_>>>,
+) -> anyhow::Result<Vec<Pair>> {
+    let mut made = Vec::new(rt.alloc());
     for _ in 0..BUDGET {
         let before = simulator.show();
         if !before.end.is_going() {
             break;
         }
+        // A refused step shows as no store below.
         let _ = simulator.run(1);
         let after = simulator.show();
-        if after.stores > before.stores {
-            let address = simulator.memory().address;
-            let word = simulator.memory().word;
-            println!(rt; "  step {:>3}: cell {address} becomes {word}", after.steps)?;
-            made.push(Made { address, word })?;
+        if after.stores > before.stores
+            && let Some(store) = simulator.memory().last
+        {
+            println!(rt;
+                "  step {:>3}: cell {} becomes {}",
+                after.steps, store.address, store.word
+            )?;
+            made.push(store)?;
         }
     }
-    Ok(())
+    Ok(made)
 }
 
-fn journal(cells: &mut [u32]) -> Journal<'_> {
-    Journal {
-        cells: ArrayMemory { words: cells },
-        address: 0,
-        word: 0,
-    }
+// A simulator over these cells, with the module loaded.
+fn loaded<'a>(
+    heap: Global,
+    pass: &Pass<'_>,
+    cells: &'a mut [u32],
+) -> anyhow::Result<Simulator<Journal<ArrayMemory<'a>>>> {
+    let memory = Journal {
+        under: ArrayMemory { words: cells },
+        last: None,
+    };
+    let Ok(mut simulator) = Simulator::new(heap, memory) else {
+        return Err(anyhow!("no memory for a simulator"));
+    };
+    // A new simulator is idle, so it refuses no load.
+    let _ = simulator.load(pass);
+    Ok(simulator)
 }
 
 // The unstruck run; answers its stores.
-pub fn tell_unstruck(rt: &HostRuntime, heap: Global, pass: &Pass<'_>) -> anyhow::Result<Vec<Made>> {
+pub fn tell_unstruck(rt: &HostRuntime, pass: &Pass<'_>) -> anyhow::Result<Vec<Pair>> {
     println!(rt; "")?;
     println!(rt; "The unstruck run:")?;
     let mut cells = CELLS;
     print_cells(rt, &cells)?;
-    let mut made = Vec::new(heap);
-    let Ok(mut simulator) = Simulator::new(heap, journal(&mut cells)) else {
-        return Err(anyhow!("no memory for a simulator"));
-    };
-    let _ = simulator.load(pass);
-    step_through(rt, &mut simulator, &mut made)?;
+    let mut simulator = loaded(rt.alloc(), pass, &mut cells)?;
+    let made = step_through(rt, &mut simulator)?;
     print_end(rt, simulator.show())?;
+    // The simulator ends here, so that the cells it borrows can be read.
     let _ = simulator.into_memory();
     print_cells(rt, &cells)?;
     Ok(made)
 }
 
 // The cells at the start with the first so many of the stores made.
-fn replayed(stores: &[Made], count: u32) -> [u32; 4] {
+fn replayed(stores: &[Pair], count: u32) -> [u32; 4] {
     let mut cells = CELLS;
     for store in stores.iter().take(count as usize) {
-        let at = store.address as usize;
-        if at < 4 {
-            cells[at] = store.word;
+        if let Some(cell) = cells.get_mut(store.address as usize) {
+            *cell = store.word;
         }
     }
     cells
 }
 
 // The same run, struck once.
-pub fn tell_struck(
-    rt: &HostRuntime,
-    heap: Global,
-    pass: &Pass<'_>,
-    stores: &[Made],
-) -> anyhow::Result<()> {
+pub fn tell_struck(rt: &HostRuntime, pass: &Pass<'_>, stores: &[Pair]) -> anyhow::Result<()> {
     println!(rt; "")?;
     println!(rt; "The same run, struck once:")?;
     let mut cells = CELLS;
-    let mut made = Vec::new(heap);
-    let Ok(mut simulator) = Simulator::new(heap, journal(&mut cells)) else {
-        return Err(anyhow!("no memory for a simulator"));
-    };
-    let _ = simulator.load(pass);
+    let mut simulator = loaded(rt.alloc(), pass, &mut cells)?;
+    // What the run came to is told from what the simulator shows.
     let _ = simulator.run(STRUCK_AFTER);
     print_end(rt, simulator.show())?;
     match simulator.strike(STRUCK_PLACE, STRUCK_TO) {
@@ -144,9 +141,10 @@ pub fn tell_struck(
         )?,
         Err(refusal) => println!(rt; "  strike refused: {}", refusal.number())?,
     }
-    step_through(rt, &mut simulator, &mut made)?;
+    step_through(rt, &mut simulator)?;
     let shown = simulator.show();
     print_end(rt, shown)?;
+    // The simulator ends here, so that the cells it borrows can be read.
     let _ = simulator.into_memory();
     print_cells(rt, &cells)?;
     let expected = replayed(stores, shown.stores);

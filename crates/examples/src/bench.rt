@@ -1,7 +1,6 @@
 // Modules of the examples, as words, and short ways to try them.
 use checker::check::Checker;
 use checker::fault::CheckFault;
-use checker::pass::Pass;
 use compiler::fault::CompileFault;
 use compiler::tables::Compiler;
 use isa::limits::MODULE_WORDS;
@@ -126,39 +125,24 @@ pub fn doubled_and_twice() -> [u32; 40] {
 
 // One block: a mov, so many times `add r0 r0 r0`, a halt.
 pub fn doubling(heap: Global, adds: u32) -> Result<Vec<u32>, AllocError> {
-    let mut words = Vec::new(heap);
-    words.push(adds.saturating_add(2))?;
-    words.push(1)?;
-    words.push(0x0000_0000)?;
-    words.push(3)?;
+    let mut words = vec![in heap; adds.saturating_add(2), 1, 0x0000_0000, 3]?;
     for _ in 0..adds {
-        words.push(0x0300_0000)?;
-        words.push(0)?;
+        words.extend_from_slice(&[0x0300_0000, 0])?;
     }
     words.push(0x0f00_0000)?;
-    words.push(0)?;
-    for _ in 0..9u8 {
-        words.push(0)?;
-    }
+    words.extend_from_slice(&[0; 10])?;
     Ok(words)
 }
 
 // The verdict of the check: None where the words pass.
 pub fn verdict(heap: Global, words: &[u32]) -> Result<Option<CheckFault>, AllocError> {
     let mut checker = Checker::new(heap)?;
-    let mut pass = Pass::new();
-    match checker.check(&mut pass, words) {
-        Ok(()) => Ok(None),
-        Err(fault) => Ok(Some(fault)),
-    }
+    Ok(checker.check(words).err())
 }
 
 // The fault of a text: None where it compiles.
 pub fn fault_of(heap: Global, text: &str) -> Result<Option<CompileFault>, AllocError> {
     let mut compiler = Compiler::new(heap)?;
     let mut out = vec![in heap; 0u32; MODULE_WORDS]?;
-    match compiler.compile(text.as_bytes(), out.as_mut_slice()) {
-        Ok(_) => Ok(None),
-        Err(fault) => Ok(Some(fault)),
-    }
+    Ok(compiler.compile(text.as_bytes(), out.as_mut_slice()).err())
 }

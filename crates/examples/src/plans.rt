@@ -1,7 +1,6 @@
 // Texts and what becomes of them.
 use crate::bench::*;
 use checker::check::Checker;
-use checker::pass::Pass;
 use compiler::tables::Compiler;
 use isa::limits::MODULE_WORDS;
 use memory::{ArrayMemory, Memory};
@@ -30,15 +29,15 @@ fn the_sample_plan(rt: HostRuntime) -> Result<(), Fail> {
     let mut cells = [1u32, 10, 20, 30];
     let mut compiler = Compiler::new(rt.alloc())?;
     let mut out = vec![in rt.alloc(); 0u32; MODULE_WORDS]?;
-    let count = match compiler.compile(SAMPLE.as_bytes(), out.as_mut_slice()) {
-        Ok(n) => n,
-        Err(_) => return Err(Fail::new("refused")),
+    let Ok(count) = compiler.compile(SAMPLE.as_bytes(), out.as_mut_slice()) else {
+        return Err(Fail::new("refused"));
     };
     assert!(rt; compiler.plan().need() == 55);
     assert!(rt; count <= out.len());
     let mut checker = Checker::new(rt.alloc())?;
-    let mut pass = Pass::new();
-    assert!(rt; checker.check(&mut pass, &out.as_slice()[0..count]).is_ok());
+    let Ok(pass) = checker.check(&out.as_slice()[0..count]) else {
+        return Err(Fail::new("refused by the check"));
+    };
     let Ok(mut simulator) = Simulator::new(rt.alloc(), ArrayMemory { words: &mut cells }) else {
         return Err(Fail::new("no memory"));
     };
@@ -90,31 +89,22 @@ fn nesting(rt: HostRuntime) -> Result<(), Fail> {
 
 // A line of 8,001 bytes: LET, and behind it the bytes as they are.
 fn let_line(bytes: &mut [u8; 8001]) {
-    bytes[0] = b'L';
-    bytes[1] = b'E';
-    bytes[2] = b'T';
-    bytes[3] = b' ';
-    bytes[4] = b'A';
-    bytes[5] = b'=';
+    bytes[..6].copy_from_slice(b"LET A=");
 }
 
 #[test]
 fn long_lines_need_no_deep_stack(rt: HostRuntime) -> Result<(), Fail> {
     let mut reader = Reader::new(rt.alloc())?;
     let mut sum = [b'+'; 8001];
-    for i in 0..4001usize {
-        sum[2 * i] = b'1';
+    for byte in sum.iter_mut().step_by(2) {
+        *byte = b'1';
     }
     let_line(&mut sum);
     assert!(rt; reader.read(&sum).is_ok());
     assert!(rt; reader.plan().nodes().len() == 7995);
     let mut open = [b'('; 8001];
     let_line(&mut open);
-    match reader.read(&open) {
-        Ok(_) => Err(Fail::new("read")),
-        Err(fault) => {
-            assert!(rt; fault.number() == 5 && fault.place() == 22);
-            Ok(())
-        },
-    }
+    let fault = reader.read(&open).err().ok_or("read")?;
+    assert!(rt; fault.number() == 5 && fault.place() == 22);
+    Ok(())
 }

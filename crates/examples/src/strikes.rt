@@ -24,8 +24,9 @@ fn run_s(
     let words = module_s(BLUE_READS_BLUE);
     let mut cells = [0u32; 6];
     let mut checker = Checker::new(rt.alloc())?;
-    let mut pass = Pass::new();
-    assert!(rt; checker.check(&mut pass, &words).is_ok());
+    let Ok(pass) = checker.check(&words) else {
+        return Err(Fail::new("refused"));
+    };
     let Ok(mut simulator) = Simulator::new(rt.alloc(), ArrayMemory { words: &mut cells }) else {
         return Err(Fail::new("no memory"));
     };

@@ -8,7 +8,6 @@ use Rattle.language.specs.Plans.{Plan, done}
 use Rattle.grammar.proofs.Acceptor.{Base, top, body, State, line, naming, named, over, want, have, full, Move, stuck, to, step, then, run, start}
 use mathlib.Core.Bool.{Bool, true, false}
 use mathlib.Core.List.{append_assoc, append-nil}
-use native.Mathlib.Omega.{arith}
 use lib.Dec.{T}
 use Rattle.grammar.specs.declared.mark.Placed.{Placed}
 use Rattle.grammar.specs.Verdict.{Depth, level, after, room, depth, Within, Stands, marks, Ending, text_end, strange, Judgement, plan, fault, Judged, accepted, strange_mark, bad_mark, bad_end, too_deep, Decided}
@@ -59,23 +58,23 @@ judge z d (p ∷ ps) s = turn (step s p.mark) (room d p.mark) p.place (judge z (
 -- the result of a complete plan
 base_yes : (K : Base) (f : Plan → Plan) → in_base K ≡ Result.yes f → line K ≡ line (top f)
 base_yes (top g) f e = cc
-base_yes (body g t K) f e = let z : ◌≡◌ {A = ℕ} 0 1 = cc in absurd (omega arith)
+base_yes (body g t K) f e = absurd cc
 
 state_yes : (s : State) (f : Plan → Plan) → in_state s ≡ Result.yes f → s ≡ line (top f)
 state_yes (line K) f e = base_yes K f e
-state_yes (naming K) f e = let z : ◌≡◌ {A = ℕ} 0 1 = cc in absurd (omega arith)
-state_yes (named v K) f e = let z : ◌≡◌ {A = ℕ} 0 1 = cc in absurd (omega arith)
-state_yes (over K) f e = let z : ◌≡◌ {A = ℕ} 0 1 = cc in absurd (omega arith)
-state_yes (want l S M k) f e = let z : ◌≡◌ {A = ℕ} 0 1 = cc in absurd (omega arith)
-state_yes (have l S t k) f e = let z : ◌≡◌ {A = ℕ} 0 1 = cc in absurd (omega arith)
-state_yes (full t k) f e = let z : ◌≡◌ {A = ℕ} 0 1 = cc in absurd (omega arith)
+state_yes (naming K) f e = absurd cc
+state_yes (named v K) f e = absurd cc
+state_yes (over K) f e = absurd cc
+state_yes (want l S M k) f e = absurd cc
+state_yes (have l S t k) f e = absurd cc
+state_yes (full t k) f e = absurd cc
 
 result_yes : (v : Move) (f : Plan → Plan) → result v ≡ Result.yes f → v ≡ to (line (top f))
-result_yes stuck f e = let z : ◌≡◌ {A = ℕ} 0 1 = cc in absurd (omega arith)
+result_yes stuck f e = absurd cc
 result_yes (to s) f e = ap to (state_yes s f e)
 
 result_no : (v : Move) (f : Plan → Plan) → result v ≡ Result.no → v ≡ to (line (top f)) → ⊥
-result_no v f e h = let z : ◌≡◌ {A = ℕ} 0 1 = cc (e, ap result h) in omega arith
+result_no v f e h = cc (e, ap result h)
 
 same_move : (v : Move) → then v to ≡ v
 same_move stuck = refl

@@ -2,14 +2,14 @@
 use crate::variable::Variable;
 use isa::kinds::Arithmetic;
 
-#[derive(Clone, Copy)]
+#[derive(Clone, Copy, Debug, PartialEq, Eq)]
 pub enum Bracket {
     Round,
     Square,
 }
 
 // A mark is one word, number or sign; the end of a line is one too.
-#[derive(Clone, Copy)]
+#[derive(Clone, Copy, Debug, PartialEq, Eq)]
 pub enum Mark {
     Let,
     Put,
@@ -26,7 +26,7 @@ pub enum Mark {
 }
 
 // A mark and the byte at which it begins.
-#[derive(Clone, Copy)]
+#[derive(Clone, Copy, Debug, PartialEq, Eq)]
 pub struct Placed {
     pub mark: Mark,
     pub place: usize,

@@ -1,9 +1,9 @@
 -- The words of a module: the count n of instructions, the count m of blocks, two words an instruction, nine words a block.
-use Rattle.std.specs.Prelude.{◌≡◌, ℕ, zero, suc, ◌+◌, ◌-◌, ◌*◌, ◌/◌, ◌%◌, ◌^◌, ◌<◌, Bool, true, false, cond, ◌&&◌, ◌||◌, List, length, ◌==◌, nat_le, nat_lt, slice_index}
+use Rattle.std.specs.Prelude.{◌≡◌, ℕ, zero, suc, ◌+◌, ◌-◌, ◌*◌, ◌/◌, ◌%◌, ◌^◌, ◌<◌, Bool, true, false, cond, ◌&&◌, ◌||◌, List, length, ◌==◌, nat_le, nat_lt, Some, None, Option, slice_index}
 use Rattle.isa.specs.declared.kinds.Colour.TheVariants.{Green, Blue}
 use Rattle.isa.specs.declared.kinds.Kind.{Kind}
-use Rattle.isa.specs.declared.card.Slot.{Slot}
-use Rattle.isa.specs.declared.card.Slot.TheVariants.{Free, Coloured}
+use Rattle.isa.specs.declared.kinds.Colour.{Colour}
+use Rattle.isa.specs.declared.card.Variable.{Variable}
 use Rattle.isa.specs.Words.{kind_of, well_formed}
 
 -- the word at a place; 0 past the end
@@ -29,11 +29,15 @@ byte w k = cond (k == 0) (w / 2 ^ 24) (cond (k == 1) (w / 2 ^ 16 % 2 ^ 8) (cond 
 abbrev pub card_byte : List ℕ → ℕ → ℕ → ℕ → ℕ
 card_byte ws n b r = byte (word ws (3 + 2 * n + 9 * b + r / 4)) (r % 4)
 
+-- a card's entry: the colour and the variable of a register, or nothing
+abbrev pub Slot : Type 0
+Slot = Option (Colour × Variable)
+
 -- the byte of a card's entry
 abbrev pub slot_byte : Slot → ℕ
-slot_byte Free = 0
-slot_byte (Coloured Green v) = v.number + 1
-slot_byte (Coloured Blue v) = v.number + 129
+slot_byte None = 0
+slot_byte (Some (Green, v)) = v.number + 1
+slot_byte (Some (Blue, v)) = v.number + 129
 
 -- a byte that a card may have
 abbrev pub slotted : ℕ → Bool

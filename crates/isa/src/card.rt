@@ -10,12 +10,8 @@ pub struct Variable {
     ghost low: { number < 32 },
 }
 
-// What a card says of a register: nothing, or its colour and the variable whose word it holds.
-#[derive(Clone, Copy)]
-pub enum Slot {
-    Free,
-    Coloured(Colour, Variable),
-}
+// What a card says of a register: its colour and the variable whose word it holds, or nothing.
+pub type Slot = Option<(Colour, Variable)>;
 
 // A block: its first instruction, and its card, register 0 first.
 #[derive(Clone, Copy)]

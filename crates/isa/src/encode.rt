@@ -7,6 +7,7 @@ use crate::kinds::{Arithmetic, Colour, Kind, Register};
 
 impl Kind {
     // The number of the operation.
+    // Stays (1): the format's numbers are a rule of the project, and `as` takes no enum whose variants hold values.
     pub fn operation(self) -> u8
         ensures value { result ≡ operation_of self }
         ensures low { result < 16 }
@@ -41,6 +42,7 @@ fn pack(op: u8, a: u8, b: u8, c: u8) -> u32
 }
 
 // The two words of an instruction; a field that it does not use is 0.
+// Stays (4): no plainer: `into` would not say that the two numbers are words.
 pub fn encode(instruction: Instruction) -> (u32, u32)
     ensures value { result ≡ (first_word instruction.kind, second_word instruction.kind) }
     ensures back { kind_of result.0 result.1 ≡ instruction.kind }

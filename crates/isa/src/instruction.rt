@@ -4,7 +4,7 @@ ghost use Rattle.isa.specs.Registers.{registers};
 use crate::kinds::Kind;
 
 // An instruction, which names only registers that there are.
-#[derive(Clone, Copy)]
+#[derive(Clone, Copy, Debug, PartialEq, Eq)]
 pub struct Instruction {
     pub kind: Kind,
     ghost low: { registers kind ≤ 32 },

@@ -32,13 +32,13 @@ impl Arithmetic {
 }
 
 // A register by its number. An `Instruction` names only registers 0 to 31.
-#[derive(Clone, Copy)]
+#[derive(Clone, Copy, Debug, PartialEq, Eq)]
 pub struct Register {
     pub number: u8,
 }
 
 // What an instruction does. The first register is the one that is set, if one is.
-#[derive(Clone, Copy)]
+#[derive(Clone, Copy, Debug, PartialEq, Eq)]
 pub enum Kind {
     // movG, movB: set a register to a number.
     Move(Colour, Register, u32),

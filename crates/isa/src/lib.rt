@@ -7,4 +7,5 @@ pub mod instruction;
 pub mod kinds;
 pub mod layout;
 pub mod limits;
+pub mod module;
 pub mod words;

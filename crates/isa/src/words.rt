@@ -15,7 +15,25 @@ const C: u8 = 2;
 const IMM: u8 = 1;
 
 // Which fields each operation uses, by its number.
-const FIELDS: [u8; 16] = [9, 9, 12, 14, 14, 14, 14, 12, 12, 12, 12, 8, 8, 12, 12, 0];
+// Stays (6): a rule of the project: one constant table of masks, which decoding and the test both read.
+const FIELDS: [u8; 16] = [
+    A | IMM,
+    A | IMM,
+    A | B,
+    A | B | C,
+    A | B | C,
+    A | B | C,
+    A | B | C,
+    A | B,
+    A | B,
+    A | B,
+    A | B,
+    A,
+    A,
+    A | B,
+    A | B,
+    0,
+];
 
 // The fields that operation `op` uses.
 fn fields(op: u8) -> u8
@@ -26,6 +44,8 @@ fn fields(op: u8) -> u8
 }
 
 // A register's field is its number where it is used, and 0 where it is not.
+// Stays (1): no plainer: whether it is used is no Option of the field here, since one that is not used is judged too;
+// the definitions of both readings below are over the same test.
 fn is_fit(used: bool, field: u32) -> bool
     ensures { result ≡ fits used field }
 {
@@ -69,6 +89,7 @@ fn immediate(used: bool, second: u32) -> u32
 }
 
 // The instruction with this operation and these operands.
+// Stays (1): a rule of the project: the format has a number for each operation.
 fn assemble(op: u8, a: Register, b: Register, c: Register, imm: u32) -> Instruction
     requires a { a.number < 32 }
     requires b { b.number < 32 }
@@ -98,6 +119,7 @@ fn assemble(op: u8, a: Register, b: Register, c: Register, imm: u32) -> Instruct
 
 // The instruction that the words are. Words that are not well formed are read by the low bits of
 // their fields; no layout with such words is accepted.
+// Stays (4): no plainer: this cannot fail, so it is no `TryFrom`, and a `From` is expected to lose nothing.
 pub fn decode(first: u32, second: u32) -> Instruction
     ensures value { result.kind ≡ kind_of first second }
     ensures back { well_formed first second ≡ true → (first_word result.kind ≡ first) × (second_word result.kind ≡ second) }

@@ -4,21 +4,16 @@ ghost use Rattle.language.specs.Limits.{need, Within, in_force};
 ghost use Rattle.language.specs.Meaning.{book_of, ending};
 ghost use Rattle.language.specs.Sample.{sample, cells, comes};
 
-fn need_number() -> u32
-    ensures { result ≡ need sample }
-{
-    55
-}
-
 // The need of the sample plan, which is within the limits.
 pub fn sample_need() -> u32
     ensures value { result ≡ need sample }
     ensures within { Within in_force sample }
 {
-    need_number()
+    55
 }
 
 // The ending of the sample plan.
+// Stays (1): a rule of the project: a plan's endings have the numbers that the simulator's calls answer.
 pub fn sample_ending() -> u8
     ensures { result ≡ ending comes }
 {

@@ -1,7 +1,6 @@
 -- The text of an instruction, and of a register of a card.
-use Rattle.std.specs.Prelude.{ℕ, List, [], ◌++◌, codes, decimal}
-use Rattle.isa.specs.declared.card.Slot.{Slot}
-use Rattle.isa.specs.declared.card.Slot.TheVariants.{Free, Coloured}
+use Rattle.std.specs.Prelude.{ℕ, List, [], ◌++◌, codes, decimal, Some, None}
+use Rattle.isa.specs.Layout.{Slot}
 use Rattle.isa.specs.declared.kinds.Arithmetic.TheVariants.{Add, Sub, Mul, Lt}
 use Rattle.isa.specs.declared.kinds.Colour.{Colour}
 use Rattle.isa.specs.declared.kinds.Colour.TheVariants.{Green, Blue}
@@ -52,5 +51,5 @@ colour Blue = codes "blue"
 
 -- what a card says of a register; nothing of a free one
 abbrev pub entry : ℕ → Slot → List ℕ
-entry r Free = []
-entry r (Coloured c v) = codes " r" ++ (decimal r ++ (codes "=" ++ (colour c ++ (codes " v" ++ decimal v.number))))
+entry r None = []
+entry r (Some (c, v)) = codes " r" ++ (decimal r ++ (codes "=" ++ (colour c ++ (codes " v" ++ decimal v.number))))

@@ -6,6 +6,8 @@ use isa::card::Slot;
 use isa::kinds::Colour;
 use std::fmt;
 
+// The name of a colour.
+// Stays (4): no plainer: the words belong to the listing; `CardEntry` shows the whole of a register.
 pub fn colour_name(colour: Colour) -> &'static str
     ensures { result.now ≡ colour_of colour }
 {
@@ -27,12 +29,11 @@ impl fmt::Display for CardEntry {
 
     fn fmt<W: fmt::Write>(&self, f: &mut fmt::Formatter<W>) -> fmt::Result {
         match self.slot {
-            Slot::Free => Ok(()),
-            Slot::Coloured(colour, v) => {
+            None => Ok(()),
+            Some((colour, v)) => {
                 let register = self.register;
                 let colour = colour_name(colour);
-                let v = v.number;
-                write!(f, " r{register}={colour} v{v}")
+                write!(f, " r{register}={colour} v{}", v.number)
             }
         }
     }

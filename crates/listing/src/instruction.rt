@@ -6,6 +6,7 @@ use isa::kinds::{Arithmetic, Colour, Kind, Register};
 use std::fmt;
 
 // The name of an instruction's operation, four letters wide.
+// Stays (4): no plainer: the words belong to the listing; `Listed` shows the whole line, and this is its first word.
 pub fn mnemonic(kind: Kind) -> &'static str
     ensures { result.now ≡ mnemonic_of kind }
 {
@@ -41,26 +42,13 @@ impl fmt::Display for Listed {
     fn fmt<W: fmt::Write>(&self, f: &mut fmt::Formatter<W>) -> fmt::Result {
         let name = mnemonic(self.kind);
         match self.kind {
-            Kind::Move(_, a, n) => {
-                let a = a.number;
-                write!(f, "{name} r{a} {n}")
-            }
+            Kind::Move(_, a, n) => write!(f, "{name} r{} {n}", a.number),
             Kind::Copy(a, b) | Kind::Load(_, a, b) | Kind::Store(_, a, b) | Kind::Branch(_, a, b) =>
-                {
-                    let a = a.number;
-                    let b = b.number;
-                    write!(f, "{name} r{a} r{b}")
-                }
+                write!(f, "{name} r{} r{}", a.number, b.number),
             Kind::Arith(_, a, b, c) => {
-                let a = a.number;
-                let b = b.number;
-                let c = c.number;
-                write!(f, "{name} r{a} r{b} r{c}")
+                write!(f, "{name} r{} r{} r{}", a.number, b.number, c.number)
             }
-            Kind::Jump(_, a) => {
-                let a = a.number;
-                write!(f, "{name} r{a}")
-            }
+            Kind::Jump(_, a) => write!(f, "{name} r{}", a.number),
             Kind::Halt => write!(f, "{name}"),
         }
     }

@@ -1,7 +1,8 @@
 -- The stores of a run account for what became of its cells.
-use Rattle.std.proofs.Common.{◌≡◌, ℕ, zero, suc, ◌+◌, ◌-◌, Bool, true, false, cond, not, ◌&&◌, T, eqb, ltb, List, [], ◌∷◌, ◌++◌, length, get_or, take, sym, refl, ap, ◌∙◌, subst, append_assoc, add-zero, add-suc, arith, eqb→eq, length-append}
+use Rattle.std.proofs.Common.{◌≡◌, ℕ, zero, suc, ◌+◌, ◌-◌, Bool, true, false, cond, not, eqb, ltb, List, [], ◌∷◌, ◌++◌, length, get_or, take, sym, refl, ap, ◌∙◌, subst, append_assoc, add-zero, add-suc, arith, length-append}
 use native.Mathlib.Nat.{sub_self}
 use Rattle.std.proofs.ByRecursion.{All-append}
+use Rattle.std.proofs.lemmas.Bool.{false≢true, and_parts, eqb-true}
 use Rattle.std.proofs.lemmas.List.{append-nil}
 use Rattle.memory.specs.Cells.{replaced}
 use Rattle.isa.specs.declared.kinds.Colour.{Colour}
@@ -17,14 +18,6 @@ use Rattle.machine.specs.Pairs.{first, rest, some?, overlay}
 use Rattle.machine.specs.Machine.{State, Outcome, stop, go, need, reg, with_place, with_store, with_queue, at, fall, zero?, pair?, commit, aim, land, jump, exec, act, settled, Run, counted, step, after, leaving, made}
 use Rattle.machine.specs.Laws.{Accounts, Lawful}
 use Rattle.machine.proofs.Runs.{stays, further, one_more, steps_going}
-
-and_l : (x y : Bool) → T (x && y) → T x
-and_l true y h = tt
-and_l false y h = h
-
-and_r : (x y : Bool) → T (x && y) → T y
-and_r true y h = h
-and_r false y h = absurd h
 
 overlay-append : (l m : List Pair) (words : ℕ → ℕ) → overlay (l ++ m) words ≡ overlay m (overlay l words)
 overlay-append [] m words = refl
@@ -48,12 +41,13 @@ module _ (w : ℕ → Bool) where
       subst (λ l. Accounts w l s t) (sym none) (record { cells = c; writable = tt; number = omega arith })
 
   -- the store of the oldest pair
-  one : (s t : State) (q : List Pair) (a v : ℕ) → s.queue ≡ q → T (some? q) → T (pair? (first q) a v) → w a ≡ true → t.cells ≡ replaced s.cells a v → t.stores ≡ suc s.stores →
+  one : (s t : State) (q : List Pair) (a v : ℕ) → s.queue ≡ q → some? q ≡ true → pair? (first q) a v ≡ true → w a ≡ true → t.cells ≡ replaced s.cells a v → t.stores ≡ suc s.stores →
       Accounts w (leaving s t) s t
-  one s t [] a v e h k r c n = absurd h
+  one s t [] a v e h k r c n = absurd (false≢true h)
   one s t (p ∷ q) a v e h k r c n =
-      let pa : p.address ≡ a = eqb→eq _ _ (and_l (eqb p.address a) (eqb p.word v) k) in
-      let pv : p.word ≡ v = eqb→eq _ _ (and_r (eqb p.address a) (eqb p.word v) k) in
+      let both = and_parts (eqb p.address a) (eqb p.word v) k in
+      let pa : p.address ≡ a = eqb-true _ _ both.0 in
+      let pv : p.word ≡ v = eqb-true _ _ both.1 in
       let up : t.stores - s.stores ≡ 1 = omega arith in
       let left : leaving s t ≡ p ∷ [] = ap (λ m. take m s.queue) up ∙ ap (take 1) e in
       subst (λ l. Accounts w l s t) (sym left) (record {
@@ -67,8 +61,8 @@ module _ (w : ℕ → Bool) where
   Fair s (stop e) = Unit {0}
   Fair s (go t) = Accounts w (leaving s t) s t
 
-  need_fair : (s : State) (b : Bool) (r : Report) (o : Outcome) → (T b → Fair s o) → Fair s (need b r o)
-  need_fair s true r o h = h tt
+  need_fair : (s : State) (b : Bool) (r : Report) (o : Outcome) → (b ≡ true → Fair s o) → Fair s (need b r o)
+  need_fair s true r o h = h refl
   need_fair s false r o h = tt
 
   either_fair : (s : State) (b : Bool) (o p : Outcome) → (b ≡ true → Fair s o) → Fair s p → Fair s (cond b o p)

@@ -1,5 +1,5 @@
 -- Runs of many steps.
-use Rattle.std.proofs.Common.{◌≡◌, ℕ, zero, suc, ◌+◌, Bool, true, false, cond, List, sym, refl, ap, ◌∙◌, true≢false, add-zero, add-suc}
+use Rattle.std.proofs.Common.{◌≡◌, ℕ, zero, suc, ◌+◌, ◌-◌, ◌≤◌, Bool, true, false, cond, List, sym, refl, ap, ◌∙◌, true≢false, add-zero, add-suc, arith}
 use Rattle.isa.specs.declared.kinds.Kind.{Kind}
 use Rattle.machine.specs.Ends.{going?}
 use Rattle.machine.specs.Machine.{Run, counted, settled, act, step, after}
@@ -14,6 +14,12 @@ module _ (w : ℕ → Bool) (code : List Kind) where
   pub further : (x : Run) (n m : ℕ) → after w code (after w code x n) m ≡ after w code x (n + m)
   further x n zero = ap (after w code x) (sym (add-zero n))
   further x n (suc m) = ap (step w code) (further x n m) ∙ ap (after w code x) (sym (add-suc n m))
+
+  -- a run that has ended after k steps is then where n steps lead
+  pub stopped : (x : Run) (k n : ℕ) → k ≤ n → going? (after w code x k).end ≡ false → after w code x k ≡ after w code x n
+  stopped x k n l h =
+      let all : k + (n - k) ≡ n = omega arith in
+      sym (stays (after w code x k) h (n - k)) ∙ further x k (n - k) ∙ ap (after w code x) all
 
   -- a step of a run that goes on is counted
   pub one_more : (x : Run) → going? x.end ≡ true → (step w code x).steps ≡ suc x.steps

@@ -1,5 +1,6 @@
 -- Lists of pairs of an address and a word, the oldest first.
 use Rattle.std.specs.Prelude.{ℕ, Bool, true, false, cond, List, [], ◌∷◌, Some, None, Option, ◌==◌}
+use Rattle.std.specs.Option.{option_or}
 use Rattle.memory.specs.Cells.{replaced}
 use Rattle.machine.specs.declared.queue.Pair.{Pair}
 
@@ -18,15 +19,10 @@ abbrev pub some? : List Pair → Bool
 some? [] = false
 some? (p ∷ q) = true
 
--- the first answer, or else the second
-abbrev pub either : Option ℕ → Option ℕ → Option ℕ
-either None o = o
-either (Some x) o = Some x
-
 -- the word of the newest pair that has the address
 abbrev pub newest : List Pair → ℕ → Option ℕ
 newest [] a = None
-newest (p ∷ q) a = either (newest q a) (cond (a == p.address) (Some p.word) None)
+newest (p ∷ q) a = option_or (newest q a) (cond (a == p.address) (Some p.word) None)
 
 -- the words with the pairs laid over them, in their order
 abbrev pub overlay : List Pair → (ℕ → ℕ) → ℕ → ℕ

@@ -1,9 +1,12 @@
 // How a run stands.
 ghost use Rattle.std.specs.Prelude.{◌≡◌};
 ghost use Rattle.machine.specs.Ends.{number, going?};
+ghost use Rattle.machine.specs.declared.ends.End.TheVariants.{NoSuchCell, Reported};
+
+use memory::NotWritable;
 
 // What the machine finds wrong.
-#[derive(Clone, Copy)]
+#[derive(Clone, Copy, Debug, PartialEq, Eq)]
 pub enum Report {
     // The two counters differ.
     CountersDiffer,
@@ -18,7 +21,8 @@ pub enum Report {
 }
 
 // How a run stands: going on, or ended in one of these ways.
-#[derive(Clone, Copy)]
+// Stays (1): a rule of the project: going on is end 0, one of the numbers of the format.
+#[derive(Clone, Copy, Debug, PartialEq, Eq)]
 pub enum End {
     Going,
     Halted,
@@ -29,6 +33,7 @@ pub enum End {
 
 impl End {
     // The number by which an end is known outside.
+    // Stays (1): a rule of the project: the format has numbers for ends.
     pub fn number(self) -> u32
         ensures { result ≡ number self }
     {
@@ -47,9 +52,22 @@ impl End {
     pub fn is_going(self) -> bool
         ensures { result ≡ going? self }
     {
-        match self {
-            End::Going => true,
-            End::Halted | End::NoSuchCell | End::Reported(_) => false,
-        }
+        matches!(self, End::Going)
+    }
+}
+
+impl From<Report> for End {
+    ghost from_gives = { λ report end. end ≡ Reported report };
+
+    fn from(report: Report) -> End {
+        End::Reported(report)
+    }
+}
+
+impl From<NotWritable> for End {
+    ghost from_gives = { λ _ end. end ≡ NoSuchCell };
+
+    fn from(_refused: NotWritable) -> End {
+        End::NoSuchCell
     }
 }

@@ -1,8 +1,8 @@
 // What the machine holds besides its cells, and what the instructions that touch no cell do to it.
-ghost use Rattle.std.specs.Prelude.{◌≡◌, ℕ, ◌+◌, ◌<◌, [], slice_index};
+ghost use Rattle.std.specs.Prelude.{◌≡◌, ℕ, ◌<◌, [], Some, None, slice_index};
 ghost use Rattle.memory.specs.Cells.{replaced};
 ghost use Rattle.machine.specs.Machine.{enqueue, aim, land, jump, branch, halt};
-ghost use Rattle.machine.specs.Views.{queued, raised, Turns};
+ghost use Rattle.machine.specs.Views.{queued, placed, with_registers, Moves, Turns};
 
 use crate::ends::{End, Report};
 use crate::queue::{Pair, Queue};
@@ -27,7 +27,7 @@ impl Latches {
         ensures queue { queued result.queue ≡ [] }
     {
         Latches {
-            registers: cleared(),
+            registers: [0; 32],
             green: 0,
             blue: 0,
             destination: 0,
@@ -42,94 +42,81 @@ impl Latches {
         self.registers[register.number as usize]
     }
 
-    // Goes on to the next instruction.
-    pub(crate) fn fall(&mut self)
-        requires green { self.old.green < 1024 }
-        requires blue { self.old.blue < 1024 }
-        ensures { self.new ≡ raised self.old }
-    {
-        self.green += 1;
-        self.blue += 1;
-    }
-
-    // Sets a register, and goes on.
-    pub(crate) fn set(&mut self, register: Register, word: u32) -> End
-        requires low { register.number < 32 }
-        requires green { self.old.green < 1024 }
-        requires blue { self.old.blue < 1024 }
-        ensures end { result ≡ End.Going }
+    pub(crate) fn set(&mut self, register: Register, word: u32)
+        requires { register.number < 32 }
         ensures registers { (r : ℕ) → slice_index self.new.registers r ≡ replaced (λ k. slice_index self.old.registers k) register.number word r }
-        ensures green { self.new.green ≡ self.old.green + 1 }
-        ensures blue { self.new.blue ≡ self.old.blue + 1 }
-        ensures destination { self.new.destination ≡ self.old.destination }
-        ensures queue { self.new.queue ≡ self.old.queue }
+        ensures others { self.new ≡ with_registers self.old self.new.registers }
     {
         self.registers[register.number as usize] = word;
-        self.fall();
-        End::Going
+    }
+
+    // Sets both counters.
+    pub(crate) fn go(&mut self, place: u32)
+        ensures { self.new ≡ placed self.old place }
+    {
+        self.green = place;
+        self.blue = place;
     }
 
     // Green's store queues a pair.
-    pub(crate) fn enqueue(&mut self, address: u32, word: u32) -> End
-        requires green { self.old.green < 1024 }
-        requires blue { self.old.blue < 1024 }
-        ensures { Turns self.old self.new result (λ s. enqueue s address word) }
+    pub(crate) fn enqueue(&mut self, pair: Pair) -> Result<(), Report>
+        ensures { Moves self.old self.new (λ _. None) result (λ s. enqueue s pair.address pair.word) }
     {
-        if !self.queue.push(Pair { address, word }) {
-            return End::Reported(Report::Queue);
-        }
-        self.fall();
-        End::Going
+        self.queue.push(pair).map_err(|_| Report::Queue)
     }
 
     // Green's half of a jump: the destination must be clear.
-    fn aim(&mut self, to: u32) -> End
-        requires green { self.old.green < 1024 }
-        requires blue { self.old.blue < 1024 }
-        ensures { Turns self.old self.new result (λ s. aim s to) }
+    fn aim(&mut self, to: u32) -> Result<(), Report>
+        ensures { Moves self.old self.new (λ _. None) result (λ s. aim s to) }
     {
         if self.destination != 0 {
-            return End::Reported(Report::Destination);
+            return Err(Report::Destination);
         }
         self.destination = to;
-        self.fall();
-        End::Going
+        Ok(())
     }
 
     // Blue's half of a jump: the destination must be set, and to the same.
-    fn land(&mut self, to: u32) -> End
-        ensures { Turns self.old self.new result (λ s. land s to) }
+    fn land(&mut self, to: u32) -> Result<(), Report>
+        ensures { Moves self.old self.new (λ _. Some to) result (λ s. land s to) }
     {
         if self.destination == 0 || self.destination != to {
-            return End::Reported(Report::Destination);
+            return Err(Report::Destination);
         }
-        self.green = self.destination;
-        self.blue = self.destination;
         self.destination = 0;
-        End::Going
+        Ok(())
     }
 
-    pub(crate) fn jump(&mut self, colour: Colour, to: u32) -> End
-        requires green { self.old.green < 1024 }
-        requires blue { self.old.blue < 1024 }
-        ensures { Turns self.old self.new result (λ s. jump colour s to) }
+    // Answers the place to which the jump leads: None for the next one, as after green's half.
+    pub(crate) fn jump(&mut self, colour: Colour, to: u32) -> Result<Option<u32>, Report>
+        ensures { Moves self.old self.new (λ at. at) result (λ s. jump colour s to) }
     {
         match colour {
-            Colour::Green => self.aim(to),
-            Colour::Blue => self.land(to),
+            Colour::Green => {
+                self.aim(to)?;
+                Ok(None)
+            }
+            Colour::Blue => {
+                self.land(to)?;
+                Ok(Some(to))
+            }
         }
     }
 
     // A jump where the word is 0.
-    pub(crate) fn branch(&mut self, colour: Colour, word: u32, to: u32) -> End
-        requires green { self.old.green < 1024 }
-        requires blue { self.old.blue < 1024 }
-        ensures { Turns self.old self.new result (λ s. branch colour s word to) }
+    pub(crate) fn branch(
+        &mut self,
+        colour: Colour,
+        word: u32,
+        to: u32,
+    ) -> Result<Option<u32>, Report>
+        ensures { Moves self.old self.new (λ at. at) result (λ s. branch colour s word to) }
     {
         if word == 0 {
             self.jump(colour, to)
         } else {
-            self.aim(0)
+            self.aim(0)?;
+            Ok(None)
         }
     }
 
@@ -144,11 +131,4 @@ impl Latches {
         }
         End::Halted
     }
-}
-
-// Registers that all hold 0.
-fn cleared() -> [u32; 32]
-    ensures { (k : ℕ) → slice_index result k ≡ 0 }
-{
-    [0; 32]
 }

@@ -1,4 +1,5 @@
 mod Every
+mod Numbers
 mod Same
 mod Scanning
 mod Spelled

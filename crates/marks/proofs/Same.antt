@@ -1,8 +1,6 @@
 -- A text has one list of marks.
 use Rattle.std.proofs.Common.{◌≡◌, ℕ, ◌+◌, ◌-◌, ◌<◌, Bool, true, false, cond, T, eqb, ltb, List, [], ◌∷◌, ◌++◌, length, get_or, codes, sym, refl, ap, ◌∙◌, subst, arith, ltb→lt, lt→ltb}
-use mathlib.Core.HLevel.{is_prop→PathP}
 use mathlib.Core.List.{append_cancel_left}
-use native.Mathlib.Bridge.{le_prop}
 use Rattle.isa.specs.declared.kinds.Arithmetic.TheVariants.{Add, Sub, Mul, Lt}
 use Rattle.language.specs.Plans.{Plan, done}
 use Rattle.grammar.specs.declared.mark.Bracket.TheVariants.{Round, Square}
@@ -11,6 +9,7 @@ use Rattle.grammar.specs.declared.mark.Mark.TheVariants as mark
 use Rattle.grammar.specs.declared.mark.Placed.{Placed}
 use Rattle.grammar.specs.declared.variable.Variable.{Variable}
 use Rattle.grammar.specs.Verdict.{Ending, text_end, strange, Judgement, plan, fault, Judged}
+use Rattle.grammar.proofs.Equal.{same_variable}
 use Rattle.grammar.proofs.Judge.{decides}
 use Rattle.std.specs.Str.{bytes_eq}
 use Rattle.marks.specs.declared.word.Kind.{Kind}
@@ -22,16 +21,13 @@ use Rattle.marks.proofs.Scanning.{front-is}
 use Rattle.marks.proofs.Spelled.{letter_kind, spells_whole, whole_sign, no_sign, OtherThanSigns}
 
 -- the variable of a number; those past F are named A, and never asked for
-same-variable : (v w : Variable) → v.number ≡ w.number → v ≡ w
-same-variable v w e i = record { number = e i; low = is_prop→PathP (λ j. e j < 6) (λ j. le_prop) v.low w.low i }
-
 lettered : (n : ℕ) (b : Bool) → (T b → n < 6) → Variable
 lettered n true h = record { number = n; low = h tt }
 lettered n false h = record { number = 0; low = omega arith }
 
 lettered_is : (v : Variable) (b : Bool) (h : T b → v.number < 6) → T b → lettered v.number b h ≡ v
 unfolding lettered
-lettered_is v true h t = same-variable _ v refl
+lettered_is v true h t = same_variable _ v refl
 lettered_is v false h t = absurd t
 
 letter : ℕ → Variable
@@ -86,7 +82,7 @@ same_mark s m k h g = sym (decoded-is m s h) ∙ decoded-is k s g
 -- no mark is empty, and none begins with a blank
 not_empty : (m : Mark) (s rest : List ℕ) → Spells s m → [] ≡ s ++ rest → ⊥
 not_empty m [] rest h e = spells_whole m [] h
-not_empty m (b ∷ s) rest h e = let z : ◌≡◌ {A = ℕ} 0 1 = cc in omega arith
+not_empty m (b ∷ s) rest h e = cc
 
 blank-sign : OtherThanSigns 32
 blank-sign = record {
@@ -119,10 +115,10 @@ same_rest s r t q e f = append_cancel_left s r q (f ∙ ap (λ l. l ++ q) (sym e
 
 same_scan : {text : List ℕ} {n : ℕ} {ps : List Placed} {y : Ending} → Scanned text n ps y → (other : List ℕ) (i : ℕ) (qs : List Placed) (z : Ending) → Scanned other i qs z → text ≡ other → n ≡ i → (ps ≡ qs) × (y ≡ z)
 same_scan at_end other i qs z at_end e j = (refl, ap text_end j)
-same_scan at_end other i qs z (at_blank h) e j = let x : ◌≡◌ {A = ℕ} 0 1 = cc in absurd (omega arith)
+same_scan at_end other i qs z (at_blank h) e j = absurd cc
 same_scan at_end other i qs z (at_mark s rest m sp a h) e j = absurd (not_empty m s rest sp e)
-same_scan at_end other i qs z (at_strange b h) e j = let x : ◌≡◌ {A = ℕ} 0 1 = cc in absurd (omega arith)
-same_scan (at_blank g) other i qs z at_end e j = let x : ◌≡◌ {A = ℕ} 0 1 = cc in absurd (omega arith)
+same_scan at_end other i qs z (at_strange b h) e j = absurd cc
+same_scan (at_blank g) other i qs z at_end e j = absurd cc
 same_scan (at_blank {s = t} g) other i qs z (at_blank {s = s} h) e j = let u : t ≡ s = cc in same_scan g s (i + 1) qs z h u (ap (λ k. k + 1) j)
 same_scan (at_blank {s = t} g) other i qs z (at_mark s rest m sp a h) e j = absurd (not-blank m s rest t sp e)
 same_scan (at_blank g) other i qs z (at_strange b h) e j = absurd (b cc)
@@ -134,7 +130,7 @@ same_scan (at_mark s rest m {ps = ps} sp a g) other i qs z (at_mark t behind k {
     let w = same_scan g behind (i + length t) qs' z h (same_rest s rest t behind u e) (ap (λ l. l + length s) j ∙ ap (λ l. i + length l) u) in
     (ap (λ l. record { mark = m; place = l } ∷ ps) j ∙ ap (λ l. record { mark = l; place = i } ∷ ps) v ∙ ap (λ l. record { mark = k; place = i } ∷ l) w.0, w.1)
 same_scan (at_mark s rest m sp a g) other i qs z (at_strange b h) e j = absurd (h s rest (sym e) a m sp)
-same_scan (at_strange b g) other i qs z at_end e j = let x : ◌≡◌ {A = ℕ} 0 1 = cc in absurd (omega arith)
+same_scan (at_strange b g) other i qs z at_end e j = absurd cc
 same_scan (at_strange b g) other i qs z (at_blank h) e j = absurd (b cc)
 same_scan (at_strange b g) other i qs z (at_mark s rest m sp a h) e j = absurd (g s rest e a m sp)
 same_scan (at_strange b g) other i qs z (at_strange c h) e j = (refl, ap strange j)

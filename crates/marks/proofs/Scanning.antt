@@ -1,14 +1,13 @@
 -- The marks of a text, one after the other.
-use Rattle.std.proofs.Common.{◌≡◌, ℕ, suc, ◌+◌, ◌<◌, ◌≤◌, Bool, true, false, List, [], ◌∷◌, ◌++◌, length, get_or, take, drop, IsErrAnd, Ok, Err, Result, sym, refl, ap, ◌∙◌, subst, arith, length-drop, take-append-drop, length-take}
+use Rattle.std.proofs.Common.{◌≡◌, ℕ, suc, ◌+◌, ◌<◌, ◌≤◌, Bool, true, false, cond, List, [], ◌∷◌, ◌++◌, length, take, drop, sym, refl, ap, ◌∙◌, subst, arith, take-append-drop, length-take}
 use lib.Seq.{take-append_seam}
-use Rattle.std.proofs.lemmas.List.{drop-drop, drop_more, drop_all}
+use Rattle.std.specs.List.{prefix_len, take_while}
+use Rattle.std.proofs.lemmas.List.{nil_from_length}
+use Rattle.std.proofs.lemmas.List.Sums.{take_while-cons}
 use Rattle.grammar.specs.declared.mark.Mark.{Mark}
 use Rattle.grammar.specs.declared.mark.Placed.{Placed}
 use Rattle.grammar.specs.Verdict.{Ending, text_end, strange}
-use Rattle.marks.specs.declared.fault.MarkFault.{MarkFault}
-use Rattle.marks.specs.declared.fault.MarkFault.TheVariants.{Strange}
 use Rattle.marks.specs.declared.word.Kind.{Kind}
-use Rattle.marks.specs.Endings.{ending}
 use Rattle.marks.specs.Finding.{counted, run, part, front, AllGo, Whole}
 use Rattle.marks.specs.Spelling.{kind_of, goes_on, Spells, NoMark, Apart, Scanned, at_end, at_blank, at_mark, at_strange}
 use Rattle.marks.proofs.Spelled.{spells_whole}
@@ -34,17 +33,18 @@ run-stop k (b ∷ s) = one (goes_on k b) refl (run-stop k s)
     one true e h = h
     one false e h = e
 
-pub run_short : (k : Kind) (s : List ℕ) → run k s ≤ length s
-run_short k [] = omega arith
-run_short k (b ∷ s) = one (goes_on k b) (run_short k s)
+-- the run, as the library takes it
+run-is : (k : Kind) (s : List ℕ) → length (take_while (goes_on k) s) ≡ run k s
+run-is k [] = refl
+run-is k (b ∷ s) = ap length (take_while-cons (goes_on k) b s) ∙ one (goes_on k b) (run-is k s)
   where
-    one : (t : Bool) → run k s ≤ length s → counted t (run k s) ≤ length (b ∷ s)
-    one true h = omega arith
-    one false h = omega arith
+    one : (t : Bool) → length (take_while (goes_on k) s) ≡ run k s → length (cond t (b ∷ take_while (goes_on k) s) []) ≡ counted t (run k s)
+    one true h = ap suc h
+    one false h = refl
 
-pub part_short : (s : List ℕ) → part s ≤ length s
+part_short : (s : List ℕ) → part s ≤ length s
 part_short [] = omega arith
-part_short (b ∷ s) = omega (arith, run_short (kind_of b) s)
+part_short (b ∷ s) = omega (arith, run-is (kind_of b) s, length-take (prefix_len (goes_on (kind_of b)) s) s)
 
 run_all : (k : Kind) (t rest : List ℕ) → AllGo k t → Stop k rest → run k (t ++ rest) ≡ length t
 run_all k [] [] h e = refl
@@ -73,50 +73,28 @@ pub front-is : (t rest : List ℕ) → Whole t → Apart t rest → front (t ++ 
 front-is [] rest h e = absurd h
 front-is (b ∷ t) rest h e = ap (λ n. b ∷ take n (t ++ rest)) (run_all (kind_of b) t rest h (apart_stop b t rest e)) ∙ ap (λ l. b ∷ l) (take-append_seam t rest)
 
-module _ (text : List ℕ) (at : ℕ) where
-  -- a blank
-  pub scan_blank : at < length text → get_or text at 0 ≡ 32 → {ps : List Placed} {z : Ending} → Scanned (drop (at + 1) text) (at + 1) ps z → Scanned (drop at text) at ps z
-  scan_blank l e {ps} {z} h = subst (λ s. Scanned s at ps z) (ap (λ b. b ∷ drop (at + 1) text) (sym e) ∙ sym (drop_more text at 0 l)) (at_blank h)
+pub part-is : (b : ℕ) (s : List ℕ) (k : Kind) (n : ℕ) → k ≡ kind_of b → n ≡ length (take_while (goes_on k) s) → 1 + n ≡ part (b ∷ s)
+part-is b s k n e h = omega (arith, h, run-is k s, ap (λ k. run k s) e)
 
-  some : at < length text → 0 < length (drop at text)
-  some l = omega (arith, length-drop at text)
+-- a blank at the byte n
+pub scan_blank : (b : ℕ) (s : List ℕ) (n m : ℕ) → b ≡ 32 → m ≡ n + 1 → {ps : List Placed} {z : Ending} → Scanned s m ps z → Scanned (b ∷ s) n ps z
+scan_blank b s n m e l {ps} {z} h = subst (λ c. Scanned (c ∷ s) n ps z) (sym e) (at_blank (subst (λ i. Scanned s i ps z) l h))
 
-  -- a mark
-  pub scan_mark : at < length text → (m : Mark) → Spells (front (drop at text)) m → {ps : List Placed} {z : Ending} →
-      Scanned (drop (at + part (drop at text)) text) (at + part (drop at text)) ps z → Scanned (drop at text) at (record { mark = m; place = at } ∷ ps) z
-  scan_mark l m sp {ps} {z} h =
-      let s = drop at text in
-      let n = part s in
-      let len : length (front s) ≡ n = omega (arith, length-take n s, part_short s) in
-      let behind : Scanned (drop n s) (at + length (front s)) ps z = subst (λ k. Scanned (drop n s) (at + k) ps z) (sym len) (subst (λ r. Scanned r (at + n) ps z) (sym (drop-drop n at text)) h) in
-      subst (λ r. Scanned r at (record { mark = m; place = at } ∷ ps) z) (take-append-drop n s) (at_mark (front s) (drop n s) m sp (front_apart s (some l)) behind)
+-- the k bytes at the front of a text that is not empty, with a mark, or with none
+module _ (b : ℕ) (s : List ℕ) (k : ℕ) (e : k ≡ part (b ∷ s)) where
+  pub front-at : take k (b ∷ s) ≡ front (b ∷ s)
+  front-at = ap (λ m. take m (b ∷ s)) e
 
-  -- a strange mark
-  pub scan_strange : at < length text → (get_or text at 0 ≡ 32 → ⊥) → NoMark (front (drop at text)) → Scanned (drop at text) at [] (strange at)
-  scan_strange l ne none = one (drop at text) (drop_more text at 0 l) none
-    where
-      one : (s : List ℕ) → s ≡ get_or text at 0 ∷ drop (at + 1) text → NoMark (front s) → Scanned s at [] (strange at)
-      one s e none = subst (λ r. Scanned r at [] (strange at)) (sym e)
-          (at_strange ne λ t rest q ap' m sp. none m (subst (λ r. Spells r m) (sym (ap front (e ∙ q) ∙ front-is t rest (spells_whole m t sp) ap')) sp))
+  pub scan_mark : (n : ℕ) (m : Mark) → Spells (take k (b ∷ s)) m → {ps : List Placed} {z : Ending} → Scanned (drop k (b ∷ s)) (n + k) ps z → Scanned (b ∷ s) n (record { mark = m; place = n } ∷ ps) z
+  scan_mark n m sp {ps} {z} h =
+      let len : length (take k (b ∷ s)) ≡ k = omega (arith, length-take k (b ∷ s), part_short (b ∷ s), e) in
+      let apart = subst (λ m. Apart (take m (b ∷ s)) (drop m (b ∷ s))) (sym e) (front_apart (b ∷ s) (omega arith)) in
+      let behind = subst (λ i. Scanned (drop k (b ∷ s)) (n + i) ps z) (sym len) h in
+      subst (λ r. Scanned r n (record { mark = m; place = n } ∷ ps) z) (take-append-drop k (b ∷ s)) (at_mark (take k (b ∷ s)) (drop k (b ∷ s)) m sp apart behind)
 
--- the run of a word or a number, byte by byte
-module _ (text : List ℕ) (k : Kind) (e : ℕ) where
-  pub run_more : e < length text → goes_on k (get_or text e 0) ≡ true → run k (drop e text) ≡ suc (run k (drop (e + 1) text))
-  run_more l h = ap (run k) (drop_more text e 0 l) ∙ ap (λ t. counted t (run k (drop (e + 1) text))) h
+  pub scan_strange : (n : ℕ) → (b ≡ 32 → ⊥) → NoMark (take k (b ∷ s)) → Scanned (b ∷ s) n [] (strange n)
+  scan_strange n ne none = at_strange ne λ t rest q a m sp. none m (subst (λ r. Spells r m) (sym (front-at ∙ ap front q ∙ front-is t rest (spells_whole m t sp) a)) sp)
 
-  pub run_over : e < length text → goes_on k (get_or text e 0) ≡ false → run k (drop e text) ≡ 0
-  run_over l h = ap (run k) (drop_more text e 0 l) ∙ ap (λ t. counted t (run k (drop (e + 1) text))) h
-
-  pub run_end : length text ≤ e → run k (drop e text) ≡ 0
-  run_end l = ap (run k) (drop_all e text l)
-
-pub part_at : (text : List ℕ) (at : ℕ) (k : Kind) → at < length text → k ≡ kind_of (get_or text at 0) → part (drop at text) ≡ suc (run k (drop (at + 1) text))
-part_at text at k l e = ap part (drop_more text at 0 l) ∙ ap (λ x. suc (run x (drop (at + 1) text))) (sym e)
-
--- the scanner's end
-pub scanned_err : (text : List ℕ) (ps : List Placed) (n : ℕ) (x : Result ℕ MarkFault) (f : MarkFault) → IsErrAnd x (λ y. y ≡ f) → f ≡ Strange n → Scanned text 0 ps (strange n) → Scanned text 0 ps (ending x)
-scanned_err text ps n (Ok y) f h e q = absurd h
-scanned_err text ps n (Err y) f h e q = subst (λ z. Scanned text 0 ps (ending (Err z))) (sym (h ∙ e)) q
-
-pub scanned_end : (text : List ℕ) (at : ℕ) → length text ≤ at → Scanned (drop at text) at [] (text_end at)
-scanned_end text at l = subst (λ s. Scanned s at [] (text_end at)) (sym (drop_all at text l)) at_end
+-- nothing is left
+pub scan_end : (s : List ℕ) (n m : ℕ) → length s ≡ 0 → n ≡ m → Scanned s n [] (text_end m)
+scan_end s n m l e = subst (λ r. Scanned r n [] (text_end m)) (sym (nil_from_length s l)) (subst (λ i. Scanned [] i [] (text_end m)) (sym e) at_end)

@@ -1,16 +1,14 @@
 -- The kind of a mark, by its bytes.
-use Rattle.std.proofs.Common.{◌≡◌, ℕ, zero, suc, ◌+◌, ◌-◌, ◌*◌, ◌<◌, ◌≤◌, Bool, true, false, cond, ◌&&◌, eqb, ltb, leb, List, [], ◌∷◌, length, get_or, sym, refl, ap, ◌∙◌, subst, arith}
+use Rattle.std.proofs.Common.{◌≡◌, ℕ, zero, suc, ◌+◌, ◌<◌, true, cond, ◌&&◌, leb, List, [], ◌∷◌, length, get_or, sym, refl, ap, ◌∙◌, subst, arith}
 use Rattle.isa.specs.declared.kinds.Arithmetic.TheVariants.{Add, Sub, Mul, Lt}
 use Rattle.grammar.specs.declared.mark.Bracket.TheVariants.{Round, Square}
 use Rattle.grammar.specs.declared.mark.Mark.{Mark}
 use Rattle.grammar.specs.declared.mark.Mark.TheVariants as mark
-use Rattle.std.specs.Str.{bytes_eq}
-use Rattle.std.proofs.lemmas.Slice.Eq.{bytes_eq-Decides}
-use Rattle.std.proofs.lemmas.Bool.{le-leb, both_ways, ltb-true, ltb-false, eqb-true, eq-eqb}
+use Rattle.std.proofs.lemmas.Bool.{le-leb}
 use Rattle.marks.specs.declared.word.Kind.{Kind}
 use Rattle.marks.specs.declared.word.Kind.TheVariants.{Word, Number, Sign}
 use Rattle.marks.specs.Finding.{AllGo, Whole}
-use Rattle.marks.specs.Spelling.{kind_of, joined, value, Numeral, Spells, NoMark}
+use Rattle.marks.specs.Spelling.{kind_of, joined, Numeral, Spells, NoMark}
 
 -- the kind of bytes that a mark has
 abbrev pub kind_mark : Mark → Kind
@@ -59,10 +57,10 @@ module _ (s : List ℕ) (k : head_kind s ≡ Word) where
   other_kind m n h = n (sym (head_kind_lem m s h) ∙ k)
 
   number_word : Number ≡ Word → ⊥
-  number_word e = let z : ◌≡◌ {A = ℕ} 0 1 = cc in omega arith
+  number_word e = cc
 
   sign_word : Sign ≡ Word → ⊥
-  sign_word e = let z : ◌≡◌ {A = ℕ} 0 1 = cc in omega arith
+  sign_word e = cc
 
   pub no_word : (Spells s mark.Let → ⊥) → (Spells s mark.Put → ⊥) → (Spells s mark.Repeat → ⊥) → (Spells s mark.End → ⊥) → (length s ≡ 1 → ⊥) → NoMark s
   no_word a b c d e mark.Let h = a h
@@ -83,18 +81,18 @@ pub no_number : (s : List ℕ) → head_kind s ≡ Number → ((n : ℕ) → Num
 no_number s k none m h = one m h (sym (head_kind_lem m s h) ∙ k)
   where
     one : (m : Mark) → Spells s m → kind_mark m ≡ Number → ⊥
-    one mark.Let h e = let z : ◌≡◌ {A = ℕ} 0 1 = cc in omega arith
-    one mark.Put h e = let z : ◌≡◌ {A = ℕ} 0 1 = cc in omega arith
-    one mark.Repeat h e = let z : ◌≡◌ {A = ℕ} 0 1 = cc in omega arith
-    one mark.End h e = let z : ◌≡◌ {A = ℕ} 0 1 = cc in omega arith
-    one mark.LineEnd h e = let z : ◌≡◌ {A = ℕ} 0 1 = cc in omega arith
+    one mark.Let h e = cc
+    one mark.Put h e = cc
+    one mark.Repeat h e = cc
+    one mark.End h e = cc
+    one mark.LineEnd h e = cc
     one (mark.Number n) h e = none n h
-    one (mark.Variable v) h e = let z : ◌≡◌ {A = ℕ} 0 1 = cc in omega arith
-    one (mark.Operator o) h e = let z : ◌≡◌ {A = ℕ} 0 1 = cc in omega arith
-    one (mark.Open b) h e = let z : ◌≡◌ {A = ℕ} 0 1 = cc in omega arith
-    one (mark.Close b) h e = let z : ◌≡◌ {A = ℕ} 0 1 = cc in omega arith
-    one mark.Comma h e = let z : ◌≡◌ {A = ℕ} 0 1 = cc in omega arith
-    one mark.Equals h e = let z : ◌≡◌ {A = ℕ} 0 1 = cc in omega arith
+    one (mark.Variable v) h e = cc
+    one (mark.Operator o) h e = cc
+    one (mark.Open b) h e = cc
+    one (mark.Close b) h e = cc
+    one mark.Comma h e = cc
+    one mark.Equals h e = cc
 
 pub no_letter : (b : ℕ) → kind_of b ≡ Word → ((n : ℕ) → n < 6 → b ≡ 65 + n → ⊥) → NoMark (b ∷ [])
 no_letter b k none m h = one m h (sym (head_kind_lem m (b ∷ []) h) ∙ k)
@@ -104,14 +102,14 @@ no_letter b k none m h = one m h (sym (head_kind_lem m (b ∷ []) h) ∙ k)
     one mark.Put h e = let z : ◌≡◌ {A = ℕ} 1 3 = ap length h in omega arith
     one mark.Repeat h e = let z : ◌≡◌ {A = ℕ} 1 6 = ap length h in omega arith
     one mark.End h e = let z : ◌≡◌ {A = ℕ} 1 3 = ap length h in omega arith
-    one mark.LineEnd h e = let z : ◌≡◌ {A = ℕ} 0 1 = cc in omega arith
-    one (mark.Number n) h e = let z : ◌≡◌ {A = ℕ} 0 1 = cc in omega arith
+    one mark.LineEnd h e = cc
+    one (mark.Number n) h e = cc
     one (mark.Variable v) h e = none v.number v.low (ap (λ l. get_or l 0 0) h)
-    one (mark.Operator o) h e = let z : ◌≡◌ {A = ℕ} 0 1 = cc in omega arith
-    one (mark.Open x) h e = let z : ◌≡◌ {A = ℕ} 0 1 = cc in omega arith
-    one (mark.Close x) h e = let z : ◌≡◌ {A = ℕ} 0 1 = cc in omega arith
-    one mark.Comma h e = let z : ◌≡◌ {A = ℕ} 0 1 = cc in omega arith
-    one mark.Equals h e = let z : ◌≡◌ {A = ℕ} 0 1 = cc in omega arith
+    one (mark.Operator o) h e = cc
+    one (mark.Open x) h e = cc
+    one (mark.Close x) h e = cc
+    one mark.Comma h e = cc
+    one mark.Equals h e = cc
 
 -- the bytes of a mark are one byte or a run
 abbrev digits-go : List ℕ → Type 0
@@ -146,14 +144,14 @@ spells_whole mark.Equals s h = subst Whole (sym h) tt
 
 -- and a whole of each kind
 joined_number : (k : Kind) → joined Number k ≡ true → k ≡ Number
-joined_number Word h = let z : ◌≡◌ {A = ℕ} 0 1 = cc in absurd (omega arith)
+joined_number Word h = absurd cc
 joined_number Number h = refl
-joined_number Sign h = let z : ◌≡◌ {A = ℕ} 0 1 = cc in absurd (omega arith)
+joined_number Sign h = absurd cc
 
 joined_sign : (k : Kind) → joined Sign k ≡ true → ⊥
-joined_sign Word h = let z : ◌≡◌ {A = ℕ} 0 1 = cc in omega arith
-joined_sign Number h = let z : ◌≡◌ {A = ℕ} 0 1 = cc in omega arith
-joined_sign Sign h = let z : ◌≡◌ {A = ℕ} 0 1 = cc in omega arith
+joined_sign Word h = cc
+joined_sign Number h = cc
+joined_sign Sign h = cc
 
 all_digits : (s : List ℕ) → AllGo Number s → digits-go s
 all_digits [] h k l = absurd (omega (arith, l))
@@ -173,11 +171,6 @@ pub whole_sign : (s : List ℕ) → Whole s → head_kind s ≡ Sign → s ≡ g
 whole_sign [] h e = absurd h
 whole_sign (b ∷ []) h e = refl
 whole_sign (b ∷ c ∷ s) h e = absurd (joined_sign (kind_of c) (subst (λ x. AllGo x (c ∷ s)) e h).0)
-
--- the value of digits does not fall
-pub value_up : (n : ℕ) (ds : List ℕ) → n ≤ value n ds
-value_up n [] = omega arith
-value_up n (d ∷ ds) = omega (arith, value_up (n * 10 + (d - 48)) ds)
 
 -- no sign is this byte
 pub record OtherThanSigns (b : ℕ) : Type 0 where
@@ -200,13 +193,13 @@ no_sign b k o m h = one m h (sym (head_kind_lem m (b ∷ []) h) ∙ k)
     byte n e = ap (λ l. get_or l 0 0) e
 
     one : (m : Mark) → Spells (b ∷ []) m → kind_mark m ≡ Sign → ⊥
-    one mark.Let h e = let z : ◌≡◌ {A = ℕ} 0 1 = cc in omega arith
-    one mark.Put h e = let z : ◌≡◌ {A = ℕ} 0 1 = cc in omega arith
-    one mark.Repeat h e = let z : ◌≡◌ {A = ℕ} 0 1 = cc in omega arith
-    one mark.End h e = let z : ◌≡◌ {A = ℕ} 0 1 = cc in omega arith
+    one mark.Let h e = cc
+    one mark.Put h e = cc
+    one mark.Repeat h e = cc
+    one mark.End h e = cc
     one mark.LineEnd h e = o.line_end (byte 10 h)
-    one (mark.Number n) h e = let z : ◌≡◌ {A = ℕ} 0 1 = cc in omega arith
-    one (mark.Variable v) h e = let z : ◌≡◌ {A = ℕ} 0 1 = cc in omega arith
+    one (mark.Number n) h e = cc
+    one (mark.Variable v) h e = cc
     one (mark.Operator Add) h e = o.add (byte 43 h)
     one (mark.Operator Sub) h e = o.sub (byte 45 h)
     one (mark.Operator Mul) h e = o.mul (byte 42 h)
@@ -217,31 +210,3 @@ no_sign b k o m h = one m h (sym (head_kind_lem m (b ∷ []) h) ∙ k)
     one (mark.Close Square) h e = o.close_square (byte 93 h)
     one mark.Comma h e = o.comma (byte 44 h)
     one mark.Equals h e = o.equals (byte 61 h)
-
-pub single : (s : List ℕ) → length s ≡ 1 → s ≡ get_or s 0 0 ∷ []
-single [] h = absurd (omega (arith, h))
-single (b ∷ []) h = refl
-single (b ∷ c ∷ s) h = absurd (omega (arith, h))
-
--- words that were compared
-pub same-is : (s w : List ℕ) (r : Bool) → r ≡ bytes_eq s w → r ≡ true → s ≡ w
-same-is s w r e h = (bytes_eq-Decides s w).0 (sym e ∙ h)
-
-pub same_not : (s w : List ℕ) (r : Bool) → r ≡ bytes_eq s w → r ≡ false → s ≡ w → ⊥
-same_not s w r e h q = both_ways r h (e ∙ (bytes_eq-Decides s w).1 q)
-
--- a zero that says nothing, or none
-pub leading : (n b : ℕ) → (ltb 1 n && eqb b 48) ≡ true → (1 < n) × (b ≡ 48)
-leading n b e = one (ltb 1 n) (eqb b 48) refl refl e
-  where
-    one : (x y : Bool) → ltb 1 n ≡ x → eqb b 48 ≡ y → (x && y) ≡ true → (1 < n) × (b ≡ 48)
-    one true true p q h = (ltb-true 1 n p, eqb-true b 48 q)
-    one true false p q h = let z : ◌≡◌ {A = ℕ} 0 1 = cc in absurd (omega arith)
-    one false y p q h = let z : ◌≡◌ {A = ℕ} 0 1 = cc in absurd (omega arith)
-
-pub plain : (n b : ℕ) → (ltb 1 n && eqb b 48) ≡ false → b ≡ 48 → n ≤ 1
-plain n b e k = one (ltb 1 n) refl (ap (λ y. ltb 1 n && y) (sym (eq-eqb b 48 k)) ∙ e)
-  where
-    one : (x : Bool) → ltb 1 n ≡ x → (x && true) ≡ false → n ≤ 1
-    one true p h = let z : ◌≡◌ {A = ℕ} 0 1 = cc in absurd (omega arith)
-    one false p h = omega (arith, ltb-false 1 n p)

@@ -1,10 +1,7 @@
 -- Inner: how the scanner's functions tell their callers what they found at the front of a text. No public contract cites it.
-use Rattle.std.specs.Prelude.{◌≡◌, ℕ, suc, ◌+◌, Bool, true, false, List, [], ◌∷◌, take, Ok, Err, Result}
-use Rattle.grammar.specs.declared.mark.Mark.{Mark}
-use Rattle.marks.specs.declared.fault.MarkFault.{MarkFault}
-use Rattle.marks.specs.declared.fault.MarkFault.TheVariants.{Strange}
+use Rattle.std.specs.Prelude.{◌≡◌, ℕ, suc, Bool, true, false, List, [], ◌∷◌, take}
 use Rattle.marks.specs.declared.word.Kind.{Kind}
-use Rattle.marks.specs.Spelling.{kind_of, goes_on, Spells, NoMark}
+use Rattle.marks.specs.Spelling.{kind_of, goes_on}
 
 -- the length of the longest run of this kind at the front
 abbrev pub counted : Bool → ℕ → ℕ
@@ -31,8 +28,3 @@ AllGo k (b ∷ s) = (goes_on k b ≡ true) × AllGo k s
 abbrev pub Whole : List ℕ → Type 0
 Whole [] = ⊥
 Whole (b ∷ s) = AllGo (kind_of b) s
-
--- the mark at the front of the text from a byte on, with its end, or a strange mark there
-abbrev pub Found : List ℕ → ℕ → Result (Mark × ℕ) MarkFault → Type 0
-Found s at (Ok x) = (x.1 ≡ at + part s) × Spells (front s) x.0
-Found s at (Err e) = (e ≡ Strange at) × NoMark (front s)

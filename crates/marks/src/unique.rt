@@ -2,12 +2,6 @@
 ghost use Rattle.std.specs.Prelude.{◌≡◌};
 ghost use Rattle.marks.specs.Texts.{HasMarks, MarksAreUnique, JudgedOnce, TreeIsUnique};
 
-fn one() -> u8
-    ensures { result ≡ 1 }
-{
-    1
-}
-
 // How many readings a text has: one. Every text has a list of marks, with an end, and no other;
 // these are one plan or have one first fault; and the plan is one tree.
 pub fn marks_are_unique() -> u8
@@ -17,5 +11,5 @@ pub fn marks_are_unique() -> u8
     ensures judged { JudgedOnce }
     ensures tree { TreeIsUnique }
 {
-    one()
+    1
 }

@@ -37,15 +37,13 @@ impl Memory for ArrayMemory<'_> {
     ghost cells = { λ m. record { word = λ at. slice_index m.words.now at; writable = λ at. nat_lt at (length m.words.now) } };
 
     fn load(&mut self, address: u32) -> u32 {
-        let at = address as usize;
-        if at < self.words.len() {
-            self.words[at]
-        } else {
-            0
-        }
+        // Lent on under a name: behind a field's own `get` nothing would be known of the words.
+        let words = &mut *self.words;
+        words.get(address as usize).copied().unwrap_or(0)
     }
 
     fn store(&mut self, address: u32, value: u32) -> Result<(), NotWritable> {
+        // Stays (4): tried `get_mut`, the proof didn't close: once a slice's word was lent, nothing is known of its words.
         let at = address as usize;
         if at < self.words.len() {
             self.words[at] = value;

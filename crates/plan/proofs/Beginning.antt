@@ -5,22 +5,19 @@ use Rattle.language.specs.Plans.{Tree, number, variable, cell, node}
 use Rattle.grammar.specs.Begins.{leads, next_byte, begins}
 use Rattle.grammar.specs.declared.mark.Mark.{Mark}
 use Rattle.grammar.specs.declared.mark.Mark.TheVariants as mark
-use Rattle.grammar.specs.declared.variable.Variable.{Variable}
 use Rattle.grammar.specs.declared.mark.Placed.{Placed as At}
 use Rattle.marks.specs.declared.fault.MarkFault.{MarkFault}
 use Rattle.plan.specs.declared.fault.ReadFault.{ReadFault}
-use Rattle.plan.specs.declared.mark.Fixed.{Fixed}
-use Rattle.plan.specs.declared.mark.Fixed.TheVariants as wanted
 use Rattle.plan.specs.declared.reader.Reader.{Reader}
 use Rattle.plan.specs.declared.tree.Expression.{Expression}
 use Rattle.plan.specs.declared.tree.NodeId.{NodeId}
 use Rattle.plan.specs.declared.tree.Statement.{Statement}
 use Rattle.plan.specs.declared.tree.Statement.TheVariants.{Let, Put, Repeat, End}
 use Rattle.plan.specs.Lining.{Placed, starts}
-use Rattle.plan.specs.Reading.{rest, first, place_of, tree_in, led, Goes, Quiet, Leads, Counts, Grew}
+use Rattle.plan.specs.Reading.{rest, first, place_of, tree_in, led, Goes, Quiet, Counts, Grew}
 use Rattle.plan.specs.Showing.{with_body}
 use Rattle.plan.specs.Tables.{places}
-use Rattle.plan.proofs.Steps.{Skip, IsErr, front}
+use Rattle.plan.proofs.Steps.{Skip, front}
 
 -- a mark was passed: the expression that it leads to, if it leads to one, comes first
 pub skip_leads : {a b : Reader} {m : Mark} → Skip a b m → begins (rest a) ≡ led m (rest b) ++ begins (rest b)
@@ -35,10 +32,6 @@ quiet_skip {a} {b} {m} h q = sym (skip_leads h ∙ ap (λ c. cond c (next_byte (
 -- .. then a part was read, and a node made of it
 pub quiet_join : {n : ℕ} {a b c e : Reader} {m : Mark} {t : Tree} {x : NodeId} → Skip a b m → leads m ≡ false → Quiet b c → Grew n c e t x → Quiet a e
 quiet_join h l q w = ap begins w.rest_is ∙ q ∙ quiet_skip h l
-
-pub err_leads : {T : Type 0} (a : Reader) (w : Fixed) (x : Result T ReadFault) → IsErr x → Leads a a w x
-err_leads a w (Ok u) h = absurd h
-err_leads a w (Err e) h = refl
 
 -- an expression that was read has a first mark
 some-nodes : (t : Tree) → 0 < nodes t
@@ -97,24 +90,7 @@ ended-starts a b z i n k e r q =
     ap (λ l. places (vec_items z.plan.statements) ++ begins l) r ∙ ap (λ l. places l ++ begins (rest b)) e ∙ push-starts ts (End n) (begins (rest b)) (begins (rest b)) refl ∙ ap (λ l. l ++ begins (rest b)) (places-set ss i n)
     ∙ ap (λ p. places (vec_items p.statements) ++ begins (rest b)) k ∙ ap (λ l. places (vec_items a.plan.statements) ++ l) q
 
--- a blank line
-pub same-starts : (a b : Reader) → b.plan ≡ a.plan → Quiet a b → starts b ≡ starts a
-same-starts a b k q = ap (λ p. places (vec_items p.statements) ++ begins (rest b)) k ∙ ap (λ l. places (vec_items a.plan.statements) ++ l) q
-
--- a LET: a stands behind its first mark, b behind its variable, c behind =, d behind its line
-pub let_placed : (a b c d : Reader) (v : Variable) (x : Expression) → Quiet a b → Leads {T = Unit {0}} b c wanted.Equals (Ok tt) → next_byte (rest c) ≡ x.place ∷ [] → Quiet c d → Placed [] a d (Let v x)
-let_placed a b c d v x p q n r = sym p ∙ q ∙ ap (λ l. l ++ begins (rest c)) n ∙ ap (λ l. x.place ∷ l) (sym r)
-
--- a PUT: a stands behind its first mark, b behind its address, c behind the comma, d behind its line
-pub put-placed : (a b c d : Reader) (x y : Expression) → next_byte (rest a) ≡ x.place ∷ [] → Quiet a b → Leads {T = Unit {0}} b c wanted.Comma (Ok tt) → next_byte (rest c) ≡ y.place ∷ [] → Quiet c d → Placed (next_byte (rest a)) a d (Put x y)
-put-placed a b c d x y m p q n r =
-    ap (λ l. l ++ begins (rest a)) m ∙ ap (λ l. x.place ∷ l) (sym p ∙ q ∙ ap (λ l. l ++ begins (rest c)) n ∙ ap (λ l. y.place ∷ l) (sym r))
-
--- before the first mark of a line
-pub behind_let : {a b : Reader} (c : Reader) → Skip a b mark.Let → (x : Result Statement ReadFault) → IfOk x (λ s. Placed [] b c s) → IfOk x (λ s. Placed [] a c s)
-behind_let c k (Ok s) h = sym (quiet_skip k refl) ∙ h
-behind_let c k (Err e) h = tt
-
+-- a PUT, before its first mark
 pub behind-put : {a b : Reader} (c : Reader) → Skip a b mark.Put → (x : Result Statement ReadFault) → IfOk x (λ s. Placed (next_byte (rest b)) b c s) → IfOk x (λ s. Placed [] a c s)
 behind-put c k (Ok s) h = skip_leads k ∙ h
 behind-put c k (Err e) h = tt
@@ -128,7 +104,7 @@ repeat_starts a b c z x k g i r n q =
 -- behind the last mark
 no_begins : (ps : List At) → None ≡ first ps → begins ps ≡ []
 no_begins [] e = refl
-no_begins (p ∷ ps) e = let z : ◌≡◌ {A = ℕ} 0 1 = cc in absurd (omega arith)
+no_begins (p ∷ ps) e = absurd cc
 
 pub all_placed : (a : Reader) → None ≡ first (rest a) → places (vec_items a.plan.statements) ≡ starts a
 all_placed a e = sym (ap (λ l. places (vec_items a.plan.statements) ++ l) (no_begins (rest a) e) ∙ append-nil (places (vec_items a.plan.statements)))

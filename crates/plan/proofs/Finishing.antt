@@ -1,5 +1,6 @@
 -- A whole text.
-use Rattle.std.proofs.Common.{◌≡◌, ℕ, ◌+◌, ◌<◌, List, [], ◌∷◌, ◌++◌, length, IsErrAnd, Ok, Err, vec_items, Result as Res, sym, refl, ap, ◌∙◌, subst, arith}
+use Rattle.std.proofs.Common.{◌≡◌, ℕ, ◌+◌, ◌<◌, List, [], ◌∷◌, ◌++◌, length, true, false, IsErrAnd, Ok, Err, vec_items, Result as Res, sym, refl, ap, ◌∙◌, subst, arith}
+use Rattle.std.specs.Result.{is_err}
 use Rattle.language.specs.Limits.{repeats}
 use Rattle.language.specs.Plans.{Tree, Plan, done}
 use Rattle.grammar.specs.Begins.{begins}
@@ -15,10 +16,10 @@ use Rattle.plan.specs.declared.tree.Statement.TheVariants.{End}
 use Rattle.marks.specs.Endings.{ending}
 use Rattle.plan.specs.Faults.{number, place}
 use Rattle.plan.specs.Listing.{Lists, no_more, a_let, a_put, a_repeat}
-use Rattle.plan.specs.Lining.{ShowsIn, Finished, LinesTell}
+use Rattle.plan.specs.Lining.{Finished, LinesTell}
 use Rattle.plan.specs.Plans.{spent}
 use Rattle.plan.specs.Reading.{rest, ask, judgement}
-use Rattle.plan.specs.Reads.{Holds, Accepted, Faulty}
+use Rattle.plan.specs.Reads.{Holds, Accepted, Faulty, Reads}
 use Rattle.plan.specs.Showing.{Shows, at_top, in_repeat}
 use Rattle.marks.specs.Spelling.{Scanned}
 use Rattle.plan.specs.Tables.{total, own, loop, places}
@@ -26,12 +27,12 @@ use Rattle.plan.proofs.Lines.{rules}
 use Rattle.plan.proofs.Listed.{prefix_none}
 
 -- before the first line
-pub empty_shows : (a : Reader) (os : List OpenRepeat) → vec_items a.plan.nodes ≡ [] → vec_items a.plan.statements ≡ [] → a.plan.own ≡ 0 → os ≡ [] → ShowsIn a os (top plain)
-empty_shows a os n s o e =
-    let ns = vec_items a.plan.nodes in
-    let cost : 0 ≡ spent a.plan = omega (arith, ap length n, a.plan.nodes.ok.0, o) in
-    subst (λ l. Shows ns (vec_items a.plan.statements) (spent a.plan) l (top plain)) (sym e)
-    (subst (λ l. Shows ns l (spent a.plan) [] (top plain)) (sym s) (subst (λ j. Shows ns [] j [] (top plain)) cost (at_top (prefix_none ns))))
+pub empty_shows : (p : Tables) (os : List OpenRepeat) → vec_items p.nodes ≡ [] → vec_items p.statements ≡ [] → p.own ≡ 0 → os ≡ [] → Shows (vec_items p.nodes) (vec_items p.statements) (spent p) os (top plain)
+empty_shows p os n s o e =
+    let ns = vec_items p.nodes in
+    let cost : 0 ≡ spent p = omega (arith, ap length n, p.nodes.ok.0, o) in
+    subst (λ l. Shows ns (vec_items p.statements) (spent p) l (top plain)) (sym e)
+    (subst (λ l. Shows ns l (spent p) [] (top plain)) (sym s) (subst (λ j. Shows ns [] j [] (top plain)) cost (at_top (prefix_none ns))))
 
 -- with a REPEAT open
 pub record Open (K : Base) : Type 0 where
@@ -61,7 +62,7 @@ lists_loops (a_repeat {n = n} {bs = bs} {ss = ss} m b e h) = omega (arith, lists
 
 -- a text that was read, or refused
 module _ (text : List ℕ) (a b : Reader) (s : Scanned text 0 (rest a) (ending a.marks.end)) where
-  pub read_accepts : vec_items a.plan.statements ≡ [] → Finished a b → Accepted text b.plan
+  read_accepts : vec_items a.plan.statements ≡ [] → Finished a b → Accepted text b.plan
   read_accepts n f = record {
     marks = rest a;
     end = ending a.marks.end;
@@ -76,8 +77,16 @@ module _ (text : List ℕ) (a b : Reader) (s : Scanned text 0 (rest a) (ending a
     places_are = f.places_are ∙ ap (λ l. places l ++ begins (rest a)) n;
   }
 
-  pub read_refuses : (e : ReadFault) → ask a 0 0 start ≡ judgement e → Faulty text e
+  read_refuses : (e : ReadFault) → ask a 0 0 start ≡ judgement e → Faulty text e
   read_refuses e f = record { marks = rest a; end = ending a.marks.end; scanned = s; judged = rules a (fault (number e) (place e)) f }
+
+  pub read_ended : {T : Type 0} (r : Res T ReadFault) → is_err r ≡ false → vec_items a.plan.statements ≡ [] → LinesTell a b r → Reads text b.plan r
+  read_ended (Ok u) e n h = read_accepts n h
+  read_ended (Err f) e n h = absurd cc
+
+  pub read_failed : {T : Type 0} (r : Res T ReadFault) (t : Tables) → is_err r ≡ true → Holds t done → LinesTell a b r → Reads text t r
+  read_failed (Ok u) t e h l = absurd cc
+  read_failed (Err f) t e h l = (read_refuses f l, h)
 
 -- empty tables hold the empty plan
 pub empty_holds : (t : Tables) → vec_items t.nodes ≡ [] → vec_items t.statements ≡ [] → Holds t done

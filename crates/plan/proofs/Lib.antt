@@ -3,7 +3,6 @@ mod Finishing
 mod Front
 mod Growing
 mod Growth
-mod Laid
 mod Laying
 mod Lines
 mod Listed

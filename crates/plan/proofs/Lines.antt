@@ -1,5 +1,6 @@
 -- The marks of a line, one by one.
-use Rattle.std.proofs.Common.{◌≡◌, ℕ, suc, pred, ◌+◌, ◌<◌, ◌≤◌, false, List, [], ◌∷◌, length, IsErrAnd, Some, None, Ok, Err, Result as Res, sym, refl, ap, ◌∙◌, subst, arith, ltb→lt, lt→ltb}
+use Rattle.std.proofs.Common.{◌≡◌, ℕ, suc, pred, ◌+◌, ◌<◌, ◌≤◌, List, [], ◌∷◌, length, IsErrAnd, Some, None, Ok, Err, Result as Res, sym, refl, ap, ◌∙◌, subst, arith, ltb→lt, lt→ltb}
+use Rattle.std.specs.Result.{IsErr}
 use Rattle.language.specs.Plans.{Tree, Plan, done, assign, store, again}
 use Rattle.grammar.specs.declared.mark.Bracket.TheVariants.{Round, Square}
 use Rattle.grammar.specs.declared.mark.Mark.{Mark}
@@ -13,19 +14,18 @@ use Rattle.marks.specs.declared.fault.MarkFault.{MarkFault}
 use Rattle.marks.specs.declared.fault.MarkFault.TheVariants.{Strange}
 use Rattle.plan.specs.declared.fault.ReadFault.{ReadFault}
 use Rattle.plan.specs.declared.fault.ReadFault.TheVariants as fault-is
-use Rattle.plan.specs.declared.mark.Fixed.TheVariants as wanted
 use Rattle.plan.specs.declared.reader.Reader.{Reader}
 use Rattle.plan.specs.declared.repeats.OpenRepeat.{OpenRepeat}
 use Rattle.marks.specs.Endings.{ending}
-use Rattle.plan.specs.Reading.{rest, first, place_of, is_wanted, Only, deep, ask, tell, judgement, Refused, Exceeded}
+use Rattle.plan.specs.Reading.{rest, first, place_of, Only, deep, ask, tell, judgement, Refused, Exceeded}
 use Rattle.plan.specs.Lining.{NotLineEnd, NotVariable, NoLine, Ends, Told}
-use Rattle.plan.proofs.Steps.{IsErr, Skip, pass, Refuses, refused, exceeded}
+use Rattle.plan.proofs.Steps.{Skip, pass, Refuses, refused, exceeded}
 
 -- the text's end ends the line
 none_list : (z : Ending) (d p : ℕ) (s : State) (K : Base) (l : List Placed) → None ≡ first l → step s LineEnd ≡ to (line K) → judge z (deep d p) l s ≡ judge z (deep d p) l (line K)
 none_list (text_end n) d p s K [] h e = ap (λ v. verdict n (result v)) e
 none_list (strange n) d p s K [] h e = refl
-none_list z d p s K (m ∷ l) h e = let x : ◌≡◌ {A = ℕ} 0 1 = cc in absurd (omega arith)
+none_list z d p s K (m ∷ l) h e = absurd cc
 
 pub ended : (a : Reader) (d p : ℕ) (s : State) (K : Base) → None ≡ first (rest a) → Ends s K → ask a d p s ≡ ask a d p (line K)
 unfolding ask
@@ -33,9 +33,9 @@ ended a d p s K h e = none_list (ending a.marks.end) d p s K (rest a) h e.ends
 
 -- a strange mark is met wherever the acceptor stands
 strange_list : (z : Res ℕ MarkFault) (f : MarkFault) (d p : ℕ) (s : State) (l : List Placed) → Err f ≡ place_of l z → judge (ending z) (deep d p) l s ≡ judgement (fault-is.Mark f)
-strange_list (Ok n) f d p s [] e = let x : ◌≡◌ {A = ℕ} 0 1 = cc in absurd (omega arith)
+strange_list (Ok n) f d p s [] e = absurd cc
 strange_list (Err (Strange n)) (Strange k) d p s [] e = let q : n ≡ k = cc in ap (fault 3) q
-strange_list z f d p s (m ∷ l) e = let x : ◌≡◌ {A = ℕ} 0 1 = cc in absurd (omega arith)
+strange_list z f d p s (m ∷ l) e = absurd cc
 
 pub strange_met : (a : Reader) (f : MarkFault) (d p : ℕ) (s : State) → Err f ≡ place_of (rest a) a.marks.end → ask a d p s ≡ judgement (fault-is.Mark f)
 unfolding ask
@@ -138,10 +138,10 @@ pub name_passed : {a b : Reader} (v : Letter) (d p : ℕ) (K : Base) → Skip a 
 name_passed {a} {b} v d p K h = pass a b d p d p (naming K) (named v K) _ h refl tt refl
 
 -- the marks that must come behind it, and between the two expressions of a PUT
-pub only_equals : (v : Letter) (K : Base) → Only wanted.Equals (named v K) (want nothing same same (of_let v.number K))
-only_equals x K = record { takes = refl; others = others }
+pub only_equals : (v : Letter) (K : Base) → Only Equals (named v K) (want nothing same same (of_let v.number K))
+only_equals x K = record { takes = refl; free = λ d. tt; inner = λ e. cc; others = others }
   where
-    others : (m : Mark) → is_wanted wanted.Equals m ≡ false → step (named x K) m ≡ stuck
+    others : (m : Mark) → (m ≡ Equals → ⊥) → step (named x K) m ≡ stuck
     others Let h = refl
     others Put h = refl
     others Repeat h = refl
@@ -153,12 +153,12 @@ only_equals x K = record { takes = refl; others = others }
     others (Open c) h = refl
     others (Close c) h = refl
     others Comma h = refl
-    others Equals h = let z : ◌≡◌ {A = ℕ} 0 1 = cc in absurd (omega arith)
+    others Equals h = absurd (h refl)
 
-pub only_comma : (t : Tree) (K : Base) → Only wanted.Comma (full t (of_address K)) (want nothing same same (of_value t K))
-only_comma t K = record { takes = refl; others = others }
+pub only_comma : (t : Tree) (K : Base) → Only Comma (full t (of_address K)) (want nothing same same (of_value t K))
+only_comma t K = record { takes = refl; free = λ d. tt; inner = λ e. cc; others = others }
   where
-    others : (m : Mark) → is_wanted wanted.Comma m ≡ false → step (full t (of_address K)) m ≡ stuck
+    others : (m : Mark) → (m ≡ Comma → ⊥) → step (full t (of_address K)) m ≡ stuck
     others Let h = refl
     others Put h = refl
     others Repeat h = refl
@@ -170,7 +170,7 @@ only_comma t K = record { takes = refl; others = others }
     others (Open c) h = refl
     others (Close Round) h = refl
     others (Close Square) h = refl
-    others Comma h = let z : ◌≡◌ {A = ℕ} 0 1 = cc in absurd (omega arith)
+    others Comma h = absurd (h refl)
     others Equals h = refl
 
 -- the first mark of a line
@@ -214,18 +214,18 @@ no_line a d p K m x g q e h = refused a d p (line K) x g q (subst (Refuses (line
 
 -- at the text's end
 all_list : (n d p : ℕ) (f : Plan → Plan) (l : List Placed) (z : Res ℕ MarkFault) → None ≡ first l → Ok n ≡ place_of l z → judge (ending z) (deep d p) l (line (top f)) ≡ plan (f done)
-all_list n d p f (m ∷ l) z h e = let x : ◌≡◌ {A = ℕ} 0 1 = cc in absurd (omega arith)
+all_list n d p f (m ∷ l) z h e = absurd cc
 all_list n d p f [] (Ok k) h e = refl
-all_list n d p f [] (Err k) h e = let x : ◌≡◌ {A = ℕ} 0 1 = cc in absurd (omega arith)
+all_list n d p f [] (Err k) h e = absurd cc
 
 pub all_read : (a : Reader) (n d p : ℕ) (f : Plan → Plan) → None ≡ first (rest a) → Ok n ≡ place_of (rest a) a.marks.end → ask a d p (line (top f)) ≡ plan (f done)
 unfolding ask
 all_read a n d p f h e = all_list n d p f (rest a) a.marks.end h e
 
 open_list : (n d p : ℕ) (f : Plan → Plan) (t : Tree) (K : Base) (l : List Placed) (z : Res ℕ MarkFault) → None ≡ first l → Ok n ≡ place_of l z → judge (ending z) (deep d p) l (line (body f t K)) ≡ fault 4 n
-open_list n d p f t K (m ∷ l) z h e = let x : ◌≡◌ {A = ℕ} 0 1 = cc in absurd (omega arith)
+open_list n d p f t K (m ∷ l) z h e = absurd cc
 open_list n d p f t K [] (Ok k) h e = let q : k ≡ n = cc in ap (fault 4) q
-open_list n d p f t K [] (Err k) h e = let x : ◌≡◌ {A = ℕ} 0 1 = cc in absurd (omega arith)
+open_list n d p f t K [] (Err k) h e = absurd cc
 
 pub left_open : (a : Reader) (n d p : ℕ) (f : Plan → Plan) (t : Tree) (K : Base) → None ≡ first (rest a) → Ok n ≡ place_of (rest a) a.marks.end → ask a d p (line (body f t K)) ≡ fault 4 n
 unfolding ask
@@ -242,5 +242,5 @@ told_err a b d os qs K (Ok u) f h e = absurd h
 told_err a b d os qs K (Err y) f h e = e ∙ ap judgement (sym h)
 
 pub told_tell : {T : Type 0} (a b : Reader) (d : ℕ) (os qs : List OpenRepeat) (K : Base) (x : Res T ReadFault) → IsErr x → ((g : T → Judgement) → ask a d (length os) (line K) ≡ tell x g) → Told a b d os qs K x
-told_tell a b d os qs K (Ok u) i h = absurd i
+told_tell a b d os qs K (Ok u) i h = absurd cc
 told_tell a b d os qs K (Err y) i h = h (λ _. fault 0 0)

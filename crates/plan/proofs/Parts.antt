@@ -1,10 +1,8 @@
 -- What each reader says, put together from what its parts say. `a` stands before a mark, `b` behind it, `c` behind the part read then, `e` with the new node.
-use Rattle.std.proofs.Common.{◌≡◌, ℕ, suc, ◌+◌, ◌<◌, ◌≤◌, Some, None, Ok, Err, vec_len, Option, Result, sym, refl, ap, ◌∙◌, subst, add-one, arith, ltb→lt, lt→ltb}
+use Rattle.std.proofs.Common.{◌≡◌, ℕ, suc, ◌+◌, ◌<◌, ◌≤◌, Some, None, Ok, vec_len, Option, Result, sym, refl, ap, ◌∙◌, subst, add-one, arith, ltb→lt, lt→ltb}
 use Rattle.isa.specs.declared.kinds.Arithmetic.{Arithmetic}
 use Rattle.isa.specs.declared.kinds.Arithmetic.TheVariants.{Add, Sub, Mul, Lt}
 use Rattle.grammar.specs.declared.mark.Bracket.{Bracket}
-use Rattle.grammar.specs.declared.mark.Bracket.TheVariants.{Round, Square}
-use Rattle.grammar.specs.declared.mark.Mark.{Mark}
 use Rattle.grammar.specs.declared.mark.Mark.TheVariants.{Number, Variable, Operator, Open}
 use Rattle.language.specs.Plans.{Tree, number, variable, node}
 use Rattle.grammar.specs.declared.variable.Variable.{Variable as Letter}
@@ -14,20 +12,8 @@ use Rattle.plan.specs.declared.reader.Reader.{Reader}
 use Rattle.plan.specs.declared.tree.NodeId.{NodeId}
 use Rattle.plan.specs.declared.fault.ReadFault.{ReadFault}
 use Rattle.language.specs.Limits.{nodes}
-use Rattle.plan.specs.Reading.{rest, first, tree_in, operator, sign, Goes, Grew, wrapped, Counts, ask, tell, Inside, Stops, StopsAt, not_star, only_less, Exceeded, FactorSays, TermSays, SumSays, ExprSays}
-use Rattle.plan.proofs.Steps.{IsErr, Skip, pass, exceeded, settle, fill, ends, ask_grew, goes_skip, goes_then}
-
-pub err_inside : (x : Result NodeId ReadFault) → IsErr x → (b : Reader) → Inside x b
-err_inside (Ok i) h b = absurd h
-err_inside (Err y) h b = tt
-
-pub err_counts : (x : Result NodeId ReadFault) → IsErr x → (a b : Reader) → Counts a b x
-err_counts (Ok i) h a b = absurd h
-err_counts (Err y) h a b = tt
-
-pub err_stops : (P : Arithmetic → Type 0) (x : Result NodeId ReadFault) → IsErr x → (b : Reader) → Stops P x b
-err_stops P (Ok i) h b = absurd h
-err_stops P (Err y) h b = tt
+use Rattle.plan.specs.Reading.{rest, first, tree_in, operator, sign, Goes, Grew, wrapped, Counts, ask, tell, StopsAt, not_star, only_less, Exceeded, FactorSays, TermSays, SumSays, ExprSays}
+use Rattle.plan.proofs.Steps.{Skip, pass, exceeded, settle, fill, ends, ask_grew, goes_skip, goes_then}
 
 -- after the new node
 renamed : {n : ℕ} {c e : Reader} {t u : Tree} {i : NodeId} (d p : ℕ) (f : Tree → State) → Grew n c e t i → t ≡ u → ask c d p (f u) ≡ ask e d p (f (tree_in e i))
@@ -92,11 +78,11 @@ pub data IsSign : Arithmetic → Type 0 where
   is_sub : IsSign Sub
 
 pub signs : (q : Option Arithmetic) (o : Arithmetic) → Some o ≡ sign q → (Some o ≡ q) × IsSign o
-signs None o e = let z : ◌≡◌ {A = ℕ} 0 1 = cc in absurd (omega arith)
+signs None o e = absurd cc
 signs (Some Add) o e = let k : Add ≡ o = cc in (ap Some (sym k), subst IsSign k is_add)
 signs (Some Sub) o e = let k : Sub ≡ o = cc in (ap Some (sym k), subst IsSign k is_sub)
-signs (Some Mul) o e = let z : ◌≡◌ {A = ℕ} 0 1 = cc in absurd (omega arith)
-signs (Some Lt) o e = let z : ◌≡◌ {A = ℕ} 0 1 = cc in absurd (omega arith)
+signs (Some Mul) o e = absurd cc
+signs (Some Lt) o e = absurd cc
 
 sign-step : {o : Arithmetic} → IsSign o → (l : Left) (t : Tree) (k : Hole) → step (have l same t k) (Operator o) ≡ to (want l (node o t) same k)
 sign-step is_add l t k = refl
@@ -141,17 +127,6 @@ pub less-fault : {a b : Reader} {j : Judgement} (left : NodeId) (d : ℕ) → Sk
 less-fault {a} left d h q p k = less-start left d h p k ∙ q p (below (tree_in a left)) k
 
 -- the entries of a part are its nodes
-pub counts-one : {a b e : Reader} {m : Mark} {t : Tree} {i : NodeId} → Skip a b m → Grew 1 b e t i → nodes t ≡ 1 → Counts a e (Ok i)
-counts-one {a} {b} h w q = omega (arith, ap (λ p. vec_len p.nodes) h.plan_is, w.len, ap nodes w.tree_is)
-
-wrapped-nodes : (o : Bracket) (t : Tree) → nodes (bracketed o t) ≡ nodes t + wrapped o
-wrapped-nodes Round t = omega arith
-wrapped-nodes Square t = refl
-
-pub counts_bracket : {a b c e f : Reader} {m : Mark} {j : NodeId} (o : Bracket) (i : NodeId) → Skip a b m → Counts b c (Ok i) → i.index < vec_len c.plan.nodes → Goes c e → e.plan ≡ c.plan → Grew (wrapped o) e f (bracketed o (tree_in e i)) j → Counts a f (Ok j)
-counts_bracket {e = e} o i h n l g s w =
-    omega (arith, ap (λ p. vec_len p.nodes) h.plan_is, n, ap (λ p. vec_len p.nodes) s, w.len, ap nodes w.tree_is, wrapped-nodes o (tree_in e i), ap nodes (g.kept i l))
-
 pub counts-node : {a b c e : Reader} {m : Arithmetic} {i : NodeId} (left right : NodeId) → Skip a b (Operator m) → left.index < vec_len a.plan.nodes → Goes b c → Counts b c (Ok right) →
     Grew 1 c e (node m (tree_in c left) (tree_in c right)) i → vec_len e.plan.nodes + nodes (tree_in a left) ≡ vec_len a.plan.nodes + nodes (tree_in e i)
 counts-node left right h n g q w =

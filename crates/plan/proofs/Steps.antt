@@ -1,5 +1,6 @@
 -- One mark of the reader is one mark of the acceptor.
-use Rattle.std.proofs.Common.{◌≡◌, ℕ, ◌+◌, ◌<◌, Bool, true, false, T, List, [], ◌∷◌, ◌++◌, length, get_or, IsErrAnd, IfOk, Some, None, Ok, Err, vec_items, vec_len, Option, Result as Res, sym, refl, ap, ◌∙◌, subst, arith}
+use Rattle.std.proofs.Common.{◌≡◌, ℕ, ◌+◌, Bool, true, false, T, List, [], ◌∷◌, ◌++◌, length, get_or, IsErrAnd, Some, None, Ok, Err, vec_items, vec_len, Option, Result as Res, sym, refl, ap, ◌∙◌, subst, arith}
+use Rattle.std.specs.Result.{IsErr}
 use Rattle.isa.specs.declared.kinds.Arithmetic.{Arithmetic}
 use Rattle.isa.specs.declared.kinds.Arithmetic.TheVariants.{Add, Sub, Mul, Lt}
 use Rattle.grammar.specs.declared.mark.Bracket.{Bracket}
@@ -18,16 +19,14 @@ use Rattle.marks.specs.declared.fault.MarkFault.{MarkFault}
 use Rattle.marks.specs.declared.fault.MarkFault.TheVariants.{Strange}
 use Rattle.plan.specs.declared.fault.ReadFault.{ReadFault}
 use Rattle.plan.specs.declared.tree.NodeId.{NodeId}
-use Rattle.plan.specs.declared.mark.Fixed.{Fixed}
-use Rattle.plan.specs.declared.mark.Fixed.TheVariants as wanted
 use Rattle.marks.specs.Endings.{ending}
 use Rattle.plan.specs.Trees.{tree_of, trees}
-use Rattle.plan.specs.Reading.{rest, first, tail, place_of, refusal, Refused, excess, Exceeded, operator_of, operator, fixed, same_bracket, is_wanted, wanted_next, tree_in, Goes, Grew, deep, judgement, ask, tell, Only, NoFactor, StopsAt, not_star}
+use Rattle.plan.specs.Reading.{rest, first, tail, place_of, refusal, Refused, excess, Exceeded, operator_of, operator, Goes, Grew, deep, judgement, ask, tell, Only, NoFactor, NoFactorNext, StopsAt, not_star}
 use Rattle.plan.proofs.Growth.{kept_push, tree-push}
 
 -- what a look at the front of the marks tells
 pub front : (l : List Placed) (r : List Placed) (m : Mark) → Some m ≡ first l → r ≡ tail l → (p : Placed) × (l ≡ p ∷ r) × (p.mark ≡ m)
-front [] r m e h = let z : ◌≡◌ {A = ℕ} 0 1 = cc in absurd (omega arith)
+front [] r m e h = absurd cc
 front (x ∷ xs) r m e h = (x, ap (λ l. x ∷ l) (sym h), cc)
 
 -- b is a with the mark m passed over
@@ -37,8 +36,12 @@ pub record Skip (a b : Reader) (m : Mark) : Type 0 where
   pub marks_is : b.marks ≡ a.marks
   pub plan_is : b.plan ≡ a.plan
 
+-- what passing over a mark ensures, of a mark that came
+pub skipped : {a b : Reader} {m : Mark} → Some m ≡ first (rest a) → rest b ≡ tail (rest a) → b.marks ≡ a.marks → b.plan ≡ a.plan → Skip a b m
+skipped seen r m p = record { seen = seen; rest_is = r; marks_is = m; plan_is = p }
+
 taken : (v : Move) (b : Bool) (i : ℕ) (f : State → Judgement) (z : State) → v ≡ to z → T b → turn v b i f ≡ f z
-taken stuck b i f z e t = let x : ◌≡◌ {A = ℕ} 0 1 = cc in absurd (omega arith)
+taken stuck b i f z e t = absurd cc
 taken (to y) true i f z e t = let x : y ≡ z = cc in ap f x
 taken (to y) false i f z e t = absurd t
 
@@ -76,38 +79,22 @@ pub err_tell : {A : Type 0} (x : Res A ReadFault) (f : ReadFault) → IsErrAnd x
 err_tell (Ok i) f h g = absurd h
 err_tell (Err y) f h g = ap judgement (sym h)
 
--- an answer that is a fault
-abbrev pub IsErr : {A : Type 0} → Res A ReadFault → Type 0
-IsErr (Ok x) = ⊥
-IsErr (Err e) = Unit {0}
-
-pub by_err : {A : Type 0} (x : Res A ReadFault) (f : ReadFault) → IsErrAnd x (λ y. y ≡ f) → IsErr x
-by_err (Ok i) f h = absurd h
-by_err (Err y) f h = tt
-
-pub refused_err : {A : Type 0} (ps : List Placed) (z : Res ℕ MarkFault) (x : Res A ReadFault) → Refused ps z x → IsErr x
-refused_err ps z (Ok i) h = absurd h
-refused_err ps z (Err y) h = tt
-
-pub exceeded_err : {A : Type 0} (ps : List Placed) (z : Res ℕ MarkFault) (x : Res A ReadFault) → Exceeded ps z x → IsErr x
-exceeded_err ps z (Ok i) h = absurd h
-exceeded_err ps z (Err y) h = tt
-
-pub err_made : {A : Type 0} (x : Res A ReadFault) (P : A → Type 0) → IsErr x → IfOk x P
-err_made (Ok i) P h = absurd h
-err_made (Err y) P h = tt
+-- an answer that is a fault has no value
+pub by_err : {A : Type 0} (x : Res A ReadFault) (P : ReadFault → Type 0) → IsErrAnd x P → IsErr x
+by_err (Ok i) P h = absurd h
+by_err (Err y) P h = refl
 
 pub refused : {A : Type 0} (a : Reader) (d p : ℕ) (s : State) (x : Res A ReadFault) (g : A → Judgement) → Refused (rest a) a.marks.end x → Refuses s (first (rest a)) → ask a d p s ≡ tell x g
 refused a d p s (Ok i) g h r = absurd h
 refused a d p s (Err e) g h r = refuse a d p s r ∙ ap judgement (sym h)
 
 over : (v : Move) (b : Bool) (i : ℕ) (f : State → Judgement) (z : State) → v ≡ to z → (T b → ⊥) → turn v b i f ≡ fault 5 i
-over stuck b i f z e t = let x : ◌≡◌ {A = ℕ} 0 1 = cc in absurd (omega arith)
+over stuck b i f z e t = absurd cc
 over (to y) true i f z e t = absurd (t tt)
 over (to y) false i f z e t = refl
 
 deep_list : (z : Res ℕ MarkFault) (d p : ℕ) (s y : State) (m : Mark) (l : List Placed) → Some m ≡ first l → step s m ≡ to y → (T (room (deep d p) m) → ⊥) → judge (ending z) (deep d p) l s ≡ judgement (excess (place_of l z))
-deep_list z d p s y m [] h e t = let x : ◌≡◌ {A = ℕ} 0 1 = cc in absurd (omega arith)
+deep_list z d p s y m [] h e t = absurd cc
 deep_list z d p s y m (x ∷ l) h e t =
     let k : x.mark ≡ m = cc in
     over (step s x.mark) (room (deep d p) x.mark) x.place _ y (ap (step s) k ∙ e) (λ u. t (subst (λ n. T (room (deep d p) n)) k u))
@@ -205,54 +192,20 @@ no_factor_mark l S M k (Close c) h = refl
 no_factor_mark l S M k Comma h = refl
 no_factor_mark l S M k Equals h = refl
 
-pub no_factor : (l : Left) (S M : Tree → Tree) (k : Hole) (m : Mark) → NoFactor m → Refuses (want l S M k) (Some m)
-no_factor l S M k m h = no_factor_mark l S M k m h
+pub no_factor : (l : Left) (S M : Tree → Tree) (k : Hole) (o : Option Mark) → NoFactorNext o → Refuses (want l S M k) o
+no_factor l S M k None h = refl
+no_factor l S M k (Some m) h = no_factor_mark l S M k m h
 
--- the mark that must come
-same_wanted : (b c : Bracket) → same_bracket b c ≡ true → c ≡ b
-same_wanted Round Round h = refl
-same_wanted Round Square h = let z : ◌≡◌ {A = ℕ} 0 1 = cc in absurd (omega arith)
-same_wanted Square Round h = let z : ◌≡◌ {A = ℕ} 0 1 = cc in absurd (omega arith)
-same_wanted Square Square h = refl
+-- another mark than the one that must come
+pub other_next : (w : Mark) (s z : State) (o : Option Mark) → Only w s z → (o ≡ Some w → ⊥) → Refuses s o
+other_next w s z None q h = ap result (q.others LineEnd q.inner)
+other_next w s z (Some m) q h = q.others m (λ e. h (ap Some e))
 
-is-fixed : (w : Fixed) (m : Mark) → is_wanted w m ≡ true → m ≡ fixed w
-is-fixed w Let h = let z : ◌≡◌ {A = ℕ} 0 1 = cc in absurd (omega arith)
-is-fixed w Put h = let z : ◌≡◌ {A = ℕ} 0 1 = cc in absurd (omega arith)
-is-fixed w Repeat h = let z : ◌≡◌ {A = ℕ} 0 1 = cc in absurd (omega arith)
-is-fixed w End h = let z : ◌≡◌ {A = ℕ} 0 1 = cc in absurd (omega arith)
-is-fixed w LineEnd h = let z : ◌≡◌ {A = ℕ} 0 1 = cc in absurd (omega arith)
-is-fixed w (Number n) h = let z : ◌≡◌ {A = ℕ} 0 1 = cc in absurd (omega arith)
-is-fixed w (Variable v) h = let z : ◌≡◌ {A = ℕ} 0 1 = cc in absurd (omega arith)
-is-fixed w (Operator o) h = let z : ◌≡◌ {A = ℕ} 0 1 = cc in absurd (omega arith)
-is-fixed w (Open c) h = let z : ◌≡◌ {A = ℕ} 0 1 = cc in absurd (omega arith)
-is-fixed wanted.Comma (Close c) h = let z : ◌≡◌ {A = ℕ} 0 1 = cc in absurd (omega arith)
-is-fixed wanted.Equals (Close c) h = let z : ◌≡◌ {A = ℕ} 0 1 = cc in absurd (omega arith)
-is-fixed (wanted.Close b) (Close c) h = ap Close (same_wanted b c h)
-is-fixed wanted.Comma Comma h = refl
-is-fixed wanted.Equals Comma h = let z : ◌≡◌ {A = ℕ} 0 1 = cc in absurd (omega arith)
-is-fixed (wanted.Close b) Comma h = let z : ◌≡◌ {A = ℕ} 0 1 = cc in absurd (omega arith)
-is-fixed wanted.Comma Equals h = let z : ◌≡◌ {A = ℕ} 0 1 = cc in absurd (omega arith)
-is-fixed wanted.Equals Equals h = refl
-is-fixed (wanted.Close b) Equals h = let z : ◌≡◌ {A = ℕ} 0 1 = cc in absurd (omega arith)
-
-pub fixed-next : (w : Fixed) (o : Option Mark) → wanted_next w o ≡ true → Some (fixed w) ≡ o
-fixed-next w None h = let z : ◌≡◌ {A = ℕ} 0 1 = cc in absurd (omega arith)
-fixed-next w (Some m) h = ap Some (sym (is-fixed w m h))
-
-pub other_next : (w : Fixed) (s z : State) (o : Option Mark) → Only w s z → wanted_next w o ≡ false → Refuses s o
-other_next w s z None q h = ap result (q.others LineEnd refl)
-other_next w s z (Some m) q h = q.others m h
-
-room-fixed : (w : Fixed) (d p : ℕ) → T (room (deep d p) (fixed w))
-room-fixed wanted.Comma d p = tt
-room-fixed wanted.Equals d p = tt
-room-fixed (wanted.Close b) d p = tt
-
-pub fixed_passed : {a b : Reader} {w : Fixed} → Skip a b (fixed w) → (d p d' p' : ℕ) (s z : State) → after (deep d p) (fixed w) ≡ deep d' p' → Only w s z → ask a d p s ≡ ask b d' p' z
-fixed_passed {a} {b} {w} h d p d' p' s z e q = pass a b d p d' p' s z (fixed w) h q.takes (room-fixed w d p) e
+pub only-passed : {a b : Reader} {w : Mark} → Skip a b w → (d p d' p' : ℕ) (s z : State) → after (deep d p) w ≡ deep d' p' → Only w s z → ask a d p s ≡ ask b d' p' z
+only-passed {a} {b} {w} h d p d' p' s z e q = pass a b d p d' p' s z w h q.takes (q.free (deep d p)) e
 
 -- .. behind the expression in a bracket
-not-closed : (b : Bracket) (t : Tree) (l : Left) (S M : Tree → Tree) (k : Hole) (m : Mark) → is_wanted (wanted.Close b) m ≡ false → step (full t (inside b l S M k)) m ≡ stuck
+not-closed : (b : Bracket) (t : Tree) (l : Left) (S M : Tree → Tree) (k : Hole) (m : Mark) → (m ≡ Close b → ⊥) → step (full t (inside b l S M k)) m ≡ stuck
 not-closed b t l S M k Let h = refl
 not-closed b t l S M k Put h = refl
 not-closed b t l S M k Repeat h = refl
@@ -264,35 +217,35 @@ not-closed b t l S M k (Operator o) h = refl
 not-closed b t l S M k (Open c) h = refl
 not-closed b t l S M k Comma h = refl
 not-closed b t l S M k Equals h = refl
-not-closed Round t l S M k (Close Round) h = let x : ◌≡◌ {A = ℕ} 0 1 = cc in absurd (omega arith)
+not-closed Round t l S M k (Close Round) h = absurd (h refl)
 not-closed Round t l S M k (Close Square) h = refl
 not-closed Square t l S M k (Close Round) h = refl
-not-closed Square t l S M k (Close Square) h = let x : ◌≡◌ {A = ℕ} 0 1 = cc in absurd (omega arith)
+not-closed Square t l S M k (Close Square) h = absurd (h refl)
 
 closed-step : (b : Bracket) (t : Tree) (l : Left) (S M : Tree → Tree) (k : Hole) → step (full t (inside b l S M k)) (Close b) ≡ to (have l S (M (bracketed b t)) k)
 closed-step Round t l S M k = refl
 closed-step Square t l S M k = refl
 
-pub only_close : (b : Bracket) (t : Tree) (l : Left) (S M : Tree → Tree) (k : Hole) → Only (wanted.Close b) (full t (inside b l S M k)) (have l S (M (bracketed b t)) k)
-only_close b t l S M k = record { takes = closed-step b t l S M k; others = not-closed b t l S M k }
+pub only_close : (b : Bracket) (t : Tree) (l : Left) (S M : Tree → Tree) (k : Hole) → Only (Close b) (full t (inside b l S M k)) (have l S (M (bracketed b t)) k)
+only_close b t l S M k = record { takes = closed-step b t l S M k; free = λ d. tt; inner = λ e. cc; others = not-closed b t l S M k }
 
 -- an operator that comes next is the next mark
 op_mark : (m : Mark) (o : Arithmetic) → Some o ≡ operator_of m → m ≡ Operator o
-op_mark Let x h = let z : ◌≡◌ {A = ℕ} 0 1 = cc in absurd (omega arith)
-op_mark Put x h = let z : ◌≡◌ {A = ℕ} 0 1 = cc in absurd (omega arith)
-op_mark Repeat x h = let z : ◌≡◌ {A = ℕ} 0 1 = cc in absurd (omega arith)
-op_mark End x h = let z : ◌≡◌ {A = ℕ} 0 1 = cc in absurd (omega arith)
-op_mark LineEnd x h = let z : ◌≡◌ {A = ℕ} 0 1 = cc in absurd (omega arith)
-op_mark (Number n) x h = let z : ◌≡◌ {A = ℕ} 0 1 = cc in absurd (omega arith)
-op_mark (Variable v) x h = let z : ◌≡◌ {A = ℕ} 0 1 = cc in absurd (omega arith)
+op_mark Let x h = absurd cc
+op_mark Put x h = absurd cc
+op_mark Repeat x h = absurd cc
+op_mark End x h = absurd cc
+op_mark LineEnd x h = absurd cc
+op_mark (Number n) x h = absurd cc
+op_mark (Variable v) x h = absurd cc
 op_mark (Operator o) x h = let e : o ≡ x = cc in ap Operator e
-op_mark (Open c) x h = let z : ◌≡◌ {A = ℕ} 0 1 = cc in absurd (omega arith)
-op_mark (Close c) x h = let z : ◌≡◌ {A = ℕ} 0 1 = cc in absurd (omega arith)
-op_mark Comma x h = let z : ◌≡◌ {A = ℕ} 0 1 = cc in absurd (omega arith)
-op_mark Equals x h = let z : ◌≡◌ {A = ℕ} 0 1 = cc in absurd (omega arith)
+op_mark (Open c) x h = absurd cc
+op_mark (Close c) x h = absurd cc
+op_mark Comma x h = absurd cc
+op_mark Equals x h = absurd cc
 
 pub op-next : (q : Option Mark) (o : Arithmetic) → Some o ≡ operator q → Some (Operator o) ≡ q
-op-next None o h = let z : ◌≡◌ {A = ℕ} 0 1 = cc in absurd (omega arith)
+op-next None o h = absurd cc
 op-next (Some m) o h = ap Some (sym (op_mark m o h))
 
 -- what every part keeps
@@ -357,9 +310,6 @@ grew a b n x u e f g l q o k =
       inside_is = omega (arith, u, l);
       tree_is = ap (λ ms. get_or (trees ms) x.index (number 0)) g ∙ tree-push ns n x.index (sym k ∙ sym u);
     }
-
-pub grew_none : (a : Reader) (x : NodeId) → x.index < vec_len a.plan.nodes → Grew 0 a a (tree_in a x) x
-grew_none a x h = record { rest_is = refl; marks_is = refl; statements_is = refl; own_is = refl; one = omega arith; len = omega arith; kept = λ y l. refl; inside_is = h; tree_is = refl }
 
 -- the same judgement where nothing but the table of nodes has changed
 pub ask_grew : {n : ℕ} {a b : Reader} {t : Tree} {x : NodeId} (d p : ℕ) (s : State) → Grew n a b t x → ask a d p s ≡ ask b d p s

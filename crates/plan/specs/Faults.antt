@@ -1,7 +1,7 @@
 -- The number, the place and the layer of each fault that reading a text can find. Must be believed.
-use Rattle.std.specs.Prelude.{ℕ}
+use Rattle.std.specs.Prelude.{ℕ, List, codes}
 use Rattle.plan.specs.declared.fault.Layer.{Layer}
-use Rattle.plan.specs.declared.fault.Layer.TheVariants.{Marks, Reader}
+use Rattle.plan.specs.declared.fault.Layer.TheVariants.{Marks, Reader, Builder}
 use Rattle.marks.specs.declared.fault.MarkFault.TheVariants.{Strange}
 use Rattle.plan.specs.declared.fault.ReadFault.{ReadFault}
 use Rattle.plan.specs.declared.fault.ReadFault.TheVariants.{Mark, Grammar, Nesting}
@@ -23,3 +23,9 @@ abbrev pub layer : ReadFault → Layer
 layer (Mark m) = Marks
 layer (Grammar at) = Reader
 layer (Nesting at) = Reader
+
+-- the name of a layer, as hosts are told it
+abbrev pub layer_name : Layer → List ℕ
+layer_name Marks = codes "marks"
+layer_name Reader = codes "reader"
+layer_name Builder = codes "builder"

@@ -2,6 +2,8 @@
 use Rattle.std.specs.Prelude.{◌≡◌, ℕ, ◌+◌, ◌<◌, ◌≤◌, List, [], ◌∷◌, ◌++◌, length, Ok, Err, vec_items, vec_len, Result}
 use Rattle.language.specs.Limits.{needs, nodes}
 use Rattle.language.specs.Plans.{Plan}
+use Rattle.stack.specs.declared.slots.Stack.{Stack}
+use Rattle.stack.specs.Items.{items, room}
 use Rattle.grammar.specs.Begins.{next_byte, begins}
 use Rattle.grammar.specs.Verdict.{plan}
 use Rattle.grammar.specs.declared.mark.Mark.{Mark}
@@ -15,7 +17,7 @@ use Rattle.plan.specs.declared.tree.Expression.{Expression}
 use Rattle.plan.specs.declared.tree.Statement.{Statement}
 use Rattle.plan.specs.Listing.{Lists}
 use Rattle.plan.specs.Plans.{spent}
-use Rattle.plan.specs.Reading.{rest, tree_in, ask, tell, judgement}
+use Rattle.plan.specs.Reading.{rest, tree_in, Opened, ask, tell, judgement}
 use Rattle.plan.specs.Showing.{Shows, IsLine, doing, weigh}
 use Rattle.plan.specs.Tables.{roots, places}
 
@@ -120,6 +122,11 @@ ShowsIn r os K = Shows (vec_items r.plan.nodes) (vec_items r.plan.statements) (s
 -- the bytes at which expressions begin: of the lines that were read, then of those that are left
 abbrev pub starts : Reader → List ℕ
 starts r = places (vec_items r.plan.statements) ++ begins (rest r)
+
+-- the open REPEATs, of which four have room, are entries
+pub record Ready (r : Reader) (s : Stack OpenRepeat) : Type 0 where
+  pub opened : Opened r.plan (items s)
+  pub slots : room s ≡ 4
 
 -- a line leads to the next one, or to a fault
 abbrev pub Told : {T : Type 0} → Reader → Reader → ℕ → List OpenRepeat → List OpenRepeat → Base → Result T ReadFault → Type 0

@@ -1,11 +1,11 @@
 -- Inner: how the functions that read an expression tell their callers where the reader stands and what they did. No public contract cites it.
-use Rattle.std.specs.Prelude.{◌≡◌, ℕ, ◌+◌, ◌<◌, ◌≤◌, Bool, true, false, cond, List, [], ◌∷◌, ◌++◌, length, drop, Some, None, Ok, Err, vec_items, vec_len, Option, Result}
+use Rattle.std.specs.Prelude.{◌≡◌, ℕ, ◌+◌, ◌≤◌, ◌<◌, T, cond, List, [], ◌∷◌, ◌++◌, length, drop, Some, None, Ok, Err, vec_items, vec_len, Option, Result, IsErrAnd}
 use Rattle.isa.specs.declared.kinds.Arithmetic.{Arithmetic}
 use Rattle.isa.specs.declared.kinds.Arithmetic.TheVariants.{Add, Sub, Mul, Lt}
 use Rattle.language.specs.Limits.{nodes}
 use Rattle.language.specs.Plans.{Tree}
 use Rattle.grammar.specs.Begins.{leads, next_byte, begins}
-use Rattle.grammar.specs.Verdict.{Depth, after, Judgement, fault}
+use Rattle.grammar.specs.Verdict.{Depth, after, room, Judgement, fault}
 use Rattle.grammar.proofs.Acceptor.{Left, nothing, Hole, State, want, have, full, same, stuck, to, step}
 use Rattle.grammar.proofs.Judge.{judge}
 use Rattle.marks.specs.declared.fault.MarkFault.{MarkFault}
@@ -13,12 +13,11 @@ use Rattle.plan.specs.declared.fault.ReadFault.{ReadFault}
 use Rattle.plan.specs.declared.fault.ReadFault.TheVariants as fault-is
 use Rattle.grammar.specs.declared.mark.Bracket.{Bracket}
 use Rattle.grammar.specs.declared.mark.Bracket.TheVariants.{Round, Square}
-use Rattle.plan.specs.declared.mark.Fixed.{Fixed}
-use Rattle.plan.specs.declared.mark.Fixed.TheVariants as wanted
 use Rattle.grammar.specs.declared.mark.Mark.{Mark}
 use Rattle.grammar.specs.declared.mark.Mark.TheVariants as mark
 use Rattle.grammar.specs.declared.mark.Placed.{Placed}
 use Rattle.plan.specs.declared.tree.NodeId.{NodeId}
+use Rattle.plan.specs.declared.nesting.Nesting.{Nesting}
 use Rattle.plan.specs.declared.reader.Reader.{Reader}
 use Rattle.plan.specs.declared.repeats.OpenRepeat.{OpenRepeat}
 use Rattle.plan.specs.declared.tables.Plan.{Plan}
@@ -50,8 +49,7 @@ refusal (Ok n) = fault-is.Grammar n
 refusal (Err e) = fault-is.Mark e
 
 abbrev pub Refused : {T : Type 0} → List Placed → Result ℕ MarkFault → Result T ReadFault → Type 0
-Refused ps end (Ok x) = ⊥
-Refused ps end (Err e) = e ≡ refusal (place_of ps end)
+Refused ps end r = IsErrAnd r (λ e. e ≡ refusal (place_of ps end))
 
 -- the fault where the next mark passes its limit
 abbrev pub excess : Result ℕ MarkFault → ReadFault
@@ -59,8 +57,7 @@ excess (Ok n) = fault-is.Nesting n
 excess (Err e) = fault-is.Mark e
 
 abbrev pub Exceeded : {T : Type 0} → List Placed → Result ℕ MarkFault → Result T ReadFault → Type 0
-Exceeded ps end (Ok x) = ⊥
-Exceeded ps end (Err e) = e ≡ excess (place_of ps end)
+Exceeded ps end r = IsErrAnd r (λ e. e ≡ excess (place_of ps end))
 
 abbrev pub operator_of : Mark → Option Arithmetic
 operator_of mark.Let = None
@@ -88,55 +85,9 @@ sign (Some Sub) = Some Sub
 sign (Some Mul) = None
 sign (Some Lt) = None
 
--- the mark that must come
-abbrev pub fixed : Fixed → Mark
-fixed wanted.Comma = mark.Comma
-fixed wanted.Equals = mark.Equals
-fixed (wanted.Close b) = mark.Close b
-
-abbrev pub same_bracket : Bracket → Bracket → Bool
-same_bracket Round Round = true
-same_bracket Round Square = false
-same_bracket Square Round = false
-same_bracket Square Square = true
-
-abbrev pub is_comma : Fixed → Bool
-is_comma wanted.Comma = true
-is_comma wanted.Equals = false
-is_comma (wanted.Close b) = false
-
-abbrev pub is_equals : Fixed → Bool
-is_equals wanted.Comma = false
-is_equals wanted.Equals = true
-is_equals (wanted.Close b) = false
-
-abbrev pub is_close : Fixed → Bracket → Bool
-is_close wanted.Comma c = false
-is_close wanted.Equals c = false
-is_close (wanted.Close b) c = same_bracket b c
-
--- this mark is the one that must come
-abbrev pub is_wanted : Fixed → Mark → Bool
-is_wanted w mark.Let = false
-is_wanted w mark.Put = false
-is_wanted w mark.Repeat = false
-is_wanted w mark.End = false
-is_wanted w mark.LineEnd = false
-is_wanted w (mark.Number n) = false
-is_wanted w (mark.Variable v) = false
-is_wanted w (mark.Operator o) = false
-is_wanted w (mark.Open c) = false
-is_wanted w (mark.Close c) = is_close w c
-is_wanted w mark.Comma = is_comma w
-is_wanted w mark.Equals = is_equals w
-
-abbrev pub wanted_next : Fixed → Option Mark → Bool
-wanted_next w None = false
-wanted_next w (Some m) = is_wanted w m
-
--- there is a place for a node for each mark that is left
-abbrev pub Room : Reader → Type 0
-Room r = vec_len r.plan.nodes + length (rest r) ≤ 8192
+-- there is a place for a node more than for the marks that are left
+abbrev pub OneMore : Reader → Type 0
+OneMore r = vec_len r.plan.nodes + length (rest r) < 8192
 
 -- the tree of a node
 abbrev pub tree_in : Reader → NodeId → Tree
@@ -169,6 +120,14 @@ Inside (Err e) b = Unit {0}
 abbrev pub Counts : Reader → Reader → Result NodeId ReadFault → Type 0
 Counts a b (Ok x) = vec_len b.plan.nodes ≡ vec_len a.plan.nodes + nodes (tree_in b x)
 Counts a b (Err e) = Unit {0}
+
+-- what reading a part of an expression does, whether it ends well or not: as many brackets are open behind it as before
+pub record Part (a b : Reader) (m n : Nesting) (x : Result NodeId ReadFault) : Type 0 where
+  pub depth : n.depth ≡ m.depth
+  pub goes : Goes a b
+  pub quiet : Quiet a b
+  pub inside : Inside x b
+  pub counts : Counts a b x
 
 -- how many nodes a bracket is
 abbrev pub wrapped : Bracket → ℕ
@@ -216,18 +175,20 @@ SumSays a b d r = (p : ℕ) (l : Left) (k : Hole) → ask a d p (want l same sam
 abbrev pub ExprSays : Reader → Reader → ℕ → Result NodeId ReadFault → Type 0
 ExprSays a b d r = (p : ℕ) (k : Hole) → ask a d p (want nothing same same k) ≡ tell r (λ x. ask b d p (full (tree_in b x) k))
 
--- only the mark w may come, and it leads to z
-pub record Only (w : Fixed) (s z : State) : Type 0 where
-  pub takes : step s (fixed w) ≡ to z
-  pub others : (m : Mark) → is_wanted w m ≡ false → step s m ≡ stuck
+-- only the mark w may come, which no limit holds back, and it leads to z; a line does not end here
+pub record Only (w : Mark) (s z : State) : Type 0 where
+  pub takes : step s w ≡ to z
+  pub free : (d : Depth) → T (room d w)
+  pub inner : mark.LineEnd ≡ w → ⊥
+  pub others : (m : Mark) → (m ≡ w → ⊥) → step s m ≡ stuck
 
 -- it was passed, or another mark refused
-abbrev pub Passes : {T : Type 0} → Reader → Reader → Fixed → Result T ReadFault → Type 0
-Passes a b w r = (d p d' p' : ℕ) (s z : State) → after (deep d p) (fixed w) ≡ deep d' p' → Only w s z → ask a d p s ≡ tell r (λ _. ask b d' p' z)
+abbrev pub Passes : {T : Type 0} → Reader → Reader → Mark → Result T ReadFault → Type 0
+Passes a b w r = (d p d' p' : ℕ) (s z : State) → after (deep d p) w ≡ deep d' p' → Only w s z → ask a d p s ≡ tell r (λ _. ask b d' p' z)
 
 -- .. and what it led to
-abbrev pub Leads : {T : Type 0} → Reader → Reader → Fixed → Result T ReadFault → Type 0
-Leads a b w (Ok x) = begins (rest a) ≡ led (fixed w) (rest b) ++ begins (rest b)
+abbrev pub Leads : {T : Type 0} → Reader → Reader → Mark → Result T ReadFault → Type 0
+Leads a b w (Ok x) = begins (rest a) ≡ led w (rest b) ++ begins (rest b)
 Leads a b w (Err e) = Quiet a b
 
 abbrev pub StopsAt : (Arithmetic → Type 0) → Option Arithmetic → Type 0
@@ -266,24 +227,9 @@ NoFactor (mark.Close c) = Unit {0}
 NoFactor mark.Comma = Unit {0}
 NoFactor mark.Equals = Unit {0}
 
--- there is a place for a node and for a statement for each mark that is left
-pub record Rooms (r : Reader) : Type 0 where
-  pub nodes : Room r
-  pub statements : vec_len r.plan.statements + length (rest r) ≤ 8192
-
--- .. for a statement more
-pub record Spare (r : Reader) : Type 0 where
-  pub nodes : Room r
-  pub statements : vec_len r.plan.statements + length (rest r) < 8192
-
--- what a line keeps; n statements are made behind its first mark
-pub record Onward (n : ℕ) (a b : Reader) : Type 0 where
-  pub forth : length (rest b) ≤ length (rest a)
-  pub room : vec_len b.plan.nodes + length (rest b) ≤ vec_len a.plan.nodes + length (rest a)
-  pub lines : vec_len b.plan.statements + length (rest b) ≤ n + vec_len a.plan.statements + length (rest a)
-  pub longer : vec_len a.plan.statements ≤ vec_len b.plan.statements
-  pub dearer : spent a.plan ≤ spent b.plan
-  pub marks : b.marks ≡ a.marks
+abbrev pub NoFactorNext : Option Mark → Type 0
+NoFactorNext None = Unit {0}
+NoFactorNext (Some m) = NoFactor m
 
 -- the open REPEATs are entries, and what was spent when they began is no more than what is now
 abbrev pub Opened : Plan → List OpenRepeat → Type 0

@@ -1,9 +1,10 @@
 // What can be wrong with a text: the number, the byte and the layer that found it.
-ghost use Rattle.std.specs.Prelude.{◌≡◌};
+ghost use Rattle.std.specs.Prelude.{◌≡◌, Some};
 ghost use Rattle.plan.specs.declared.fault.ReadFault.TheVariants.{Mark};
-ghost use Rattle.plan.specs.Faults.{number, place, layer};
+ghost use Rattle.plan.specs.Faults.{number, place, layer, layer_name};
 
 pub use marks::fault::MarkFault;
+use std::fmt;
 
 // The layer of the compiler that found a fault.
 #[derive(Clone, Copy, Debug, PartialEq, Eq)]
@@ -13,7 +14,19 @@ pub enum Layer {
     Builder,
 }
 
-#[derive(Clone, Copy)]
+impl fmt::Display for Layer {
+    ghost output = { λ l. Some (layer_name l) };
+
+    fn fmt<W: fmt::Write>(&self, f: &mut fmt::Formatter<W>) -> fmt::Result {
+        match self {
+            Layer::Marks => write!(f, "marks"),
+            Layer::Reader => write!(f, "reader"),
+            Layer::Builder => write!(f, "builder"),
+        }
+    }
+}
+
+#[derive(Clone, Copy, Debug, PartialEq, Eq)]
 pub enum ReadFault {
     Mark(MarkFault),
     // No plan goes on with the mark at this byte, or ends there.
@@ -32,6 +45,7 @@ impl From<MarkFault> for ReadFault {
 
 impl ReadFault {
     // The number by which hosts know the fault.
+    // Stays (1): a rule of the project: hosts know a fault by its number.
     pub fn number(self) -> u8
         ensures { result ≡ number self }
     {
@@ -47,9 +61,9 @@ impl ReadFault {
         ensures { result ≡ place self }
     {
         match self {
-            ReadFault::Mark(MarkFault::Strange(at)) => at,
-            ReadFault::Grammar(at) => at,
-            ReadFault::Nesting(at) => at,
+            ReadFault::Mark(MarkFault::Strange(at))
+            | ReadFault::Grammar(at)
+            | ReadFault::Nesting(at) => at,
         }
     }
 
@@ -59,8 +73,7 @@ impl ReadFault {
     {
         match self {
             ReadFault::Mark(_) => Layer::Marks,
-            ReadFault::Grammar(_) => Layer::Reader,
-            ReadFault::Nesting(_) => Layer::Reader,
+            ReadFault::Grammar(_) | ReadFault::Nesting(_) => Layer::Reader,
         }
     }
 }

@@ -17,10 +17,9 @@ impl Statement {
         ensures { result ≡ own_of self.now }
     {
         match self {
-            Statement::Let(_, _) => 2,
-            Statement::Put(_, _) => 2,
-            Statement::Repeat { count: _, body: _ } => 14,
-            Statement::End { body: _ } => 0,
+            Statement::Let(..) | Statement::Put(..) => 2,
+            Statement::Repeat { .. } => 14,
+            Statement::End { .. } => 0,
         }
     }
 
@@ -28,20 +27,15 @@ impl Statement {
     fn loops(&self) -> u32
         ensures { result ≡ loop self.now }
     {
-        match self {
-            Statement::Repeat { count: _, body: _ } => 1,
-            _ => 0,
-        }
+        u32::from(matches!(self, Statement::Repeat { .. }))
     }
-}
 
-impl Statement {
     // A REPEAT with this body; any other statement as it is.
     fn with_body(self, body: u32) -> Statement
         ensures { result ≡ with_body self body }
     {
         match self {
-            Statement::Repeat { count, body: _ } => Statement::Repeat { count, body },
+            Statement::Repeat { count, .. } => Statement::Repeat { count, body },
             other => other,
         }
     }
@@ -91,6 +85,7 @@ impl Plan {
     }
 
     // One statement more.
+    // Stays (5): no plainer: that there is room holds before and may not behind it, so it is no invariant.
     pub(crate) fn add_statement(&mut self, statement: Statement)
         requires room { vec_len self.old.statements < 8192 }
         requires roots { roots statement ≤ vec_len self.old.nodes }
@@ -112,8 +107,7 @@ impl Plan {
         ensures own { self.new.own ≡ self.old.own }
         ensures len { vec_len self.new.statements ≡ vec_len self.old.statements }
     {
-        let old = self.statements[at];
-        self.statements[at] = old.with_body(body);
+        self.statements[at] = self.statements[at].with_body(body);
     }
 
     // A REPEAT with this count begins.

@@ -7,7 +7,7 @@ pub mod fault;
 mod grow;
 pub mod limits;
 mod line;
-mod mark;
+mod look;
 mod nesting;
 mod read;
 pub mod reader;

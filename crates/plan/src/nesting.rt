@@ -18,6 +18,8 @@ impl Nesting {
 }
 
 // Stands for one open parenthesis or bracket; its end restores the count, however it is left.
+// Stays (6): no plainer: over the whole reader, each of the reader's methods would have to say that it
+// leaves the count as it is.
 pub struct Nest<'a> {
     pub(crate) nesting: &'a mut Nesting,
     pub(crate) before: u8,

@@ -1,14 +1,13 @@
 // Reading a whole text.
 ghost use Rattle.std.specs.Prelude.{◌≡◌, [], take, IfOk};
-ghost use Rattle.stack.specs.Items.{items, room as slots};
+ghost use Rattle.stack.specs.Items.{items};
 ghost use Rattle.grammar.proofs.Acceptor.{top, plain};
-ghost use Rattle.plan.specs.Lining.{ShowsIn, LinesTell};
-ghost use Rattle.plan.specs.Reading.{Rooms, Opened};
+ghost use Rattle.plan.specs.Lining.{ShowsIn, Ready, LinesTell};
 ghost use Rattle.plan.specs.Reads.{Holds, Reads};
 ghost use Rattle.language.specs.Plans.{done};
 
 use crate::fault::ReadFault;
-use crate::nesting::Nesting;
+use crate::limits::REPEATS;
 use crate::reader::Reader;
 use crate::repeats::OpenRepeat;
 use crate::tables::Plan;
@@ -34,22 +33,14 @@ impl Reader {
     }
 
     // Reads all marks.
-    fn lines(
-        &mut self,
-        nesting: &mut Nesting,
-        repeats: &mut Stack<'_, OpenRepeat>,
-    ) -> Result<(), ReadFault>
-        requires rooms { Rooms self.old }
-        requires opened { Opened self.old.plan (items repeats.old) }
-        requires slots { slots repeats.old ≡ 4 }
+    fn lines(&mut self, repeats: &mut Stack<'_, OpenRepeat>) -> Result<(), ReadFault>
+        requires ready { Ready self.old repeats.old }
         requires empty { ShowsIn self.old (items repeats.old) (top plain) }
         requires none { items repeats.old ≡ [] }
-        requires level { nesting.old.depth ≡ 0 }
-        ensures depth { nesting.new.depth ≡ nesting.old.depth }
-        ensures says { LinesTell self.old self.new result }
+        ensures { LinesTell self.old self.new result }
     {
         while let Some(mark) = self.peek() {
-            self.line(mark, nesting, repeats)?;
+            self.line(mark, repeats)?;
         }
         let end = self.place()?;
         if repeats.len() > 0 {
@@ -65,18 +56,12 @@ impl Reader {
         self.marks.scan(text);
         self.plan.clear();
         self.at = 0;
-        let mut slots = [OpenRepeat {
-            statement: 0,
-            need: 0,
-        }; 4];
-        let mut repeats = Stack::new(&mut slots);
-        let mut nesting = Nesting { depth: 0 };
-        match self.lines(&mut nesting, &mut repeats) {
-            Ok(()) => Ok(()),
-            Err(fault) => {
-                self.plan.clear();
-                Err(fault)
-            }
+        // Stays (6): a rule of the project: the stack of open REPEATs lies over lent slots.
+        let mut slots = [OpenRepeat::default(); REPEATS];
+        let read = self.lines(&mut Stack::new(&mut slots));
+        if read.is_err() {
+            self.plan.clear();
         }
+        read
     }
 }

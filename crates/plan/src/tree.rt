@@ -3,6 +3,8 @@ use grammar::variable::Variable;
 use isa::kinds::Arithmetic;
 
 // A node by its place in the table of nodes.
+// Stays (6): a rule of the project: room for nodes is made once, and boxes would ask for memory while
+// a text is read.
 #[derive(Clone, Copy)]
 pub struct NodeId {
     pub index: usize,

@@ -7,4 +7,5 @@ pub mod Layouts
 pub mod Parts
 pub mod Meets
 pub mod Relations
+pub mod Updates
 pub mod Copies

@@ -8,7 +8,7 @@ use Rattle.isa.specs.Words.{kind_of}
 use Rattle.isa.specs.Layout.{word, kind_at, start_at, card_byte, slot_byte, slotted, block_fits, every, LaidOut}
 use Rattle.rules.specs.Limits.{Limits}
 use Rattle.rules.specs.Notes.{Kind, halt}
-use Rattle.rules.specs.Cards.{Block, Card, free, entry, inside, start}
+use Rattle.rules.specs.Cards.{Block, Card, entry, inside, start}
 use Rattle.rules.specs.Module.{size, instr, kept_at, Keeps, BreaksAt}
 use Rattle.rules.specs.Block.{behind, or_free, card_at, kept?, BlockPasses, BlockBreaks, BlockJudged}
 use Rattle.rules.specs.Part.{Behind, Part}
@@ -228,10 +228,10 @@ lies ws laid b from to h f t =
 
 -- block b as it was read from words that are laid out well, with n instructions
 pub read_block : (ws : List ℕ) (good : every (word ws 1) (block_fits ws (word ws 0)) ≡ true) (n b : ℕ) (B : Block) → n ≡ word ws 0 → b < word ws 1 → B.start ≡ start_at ws n b
-    → ((k : ℕ) → k < 32 → slotted (card_byte ws n b k) ≡ true → slot_byte (get_or B.card k free) ≡ card_byte ws n b k) → B ≡ block_of ws (word ws 0) b
+    → ((k : ℕ) → k < 32 → slotted (card_byte ws n b k) ≡ true → slot_byte (get_or B.card k None) ≡ card_byte ws n b k) → B ≡ block_of ws (word ws 0) b
 read_block ws good n b B e h =
     let P : ℕ → Type 0 =
-    λ m. B.start ≡ start_at ws m b → ((k : ℕ) → k < 32 → slotted (card_byte ws m b k) ≡ true → slot_byte (get_or B.card k free) ≡ card_byte ws m b k)
+    λ m. B.start ≡ start_at ws m b → ((k : ℕ) → k < 32 → slotted (card_byte ws m b k) ≡ true → slot_byte (get_or B.card k None) ≡ card_byte ws m b k)
     → B ≡ block_of ws (word ws 0) b in
     subst P (sym e) (λ s c. block_back ws (word ws 0) b B s (λ k l. c k l (slots ws good b k h l)))
 

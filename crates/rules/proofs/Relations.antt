@@ -1,11 +1,11 @@
 -- The rules of the check, as relations: what the proofs use of them.
-use Rattle.std.proofs.Common.{◌≡◌, ℕ, zero, suc, ◌+◌, ◌<◌, Bool, true, false, not, ◌||◌, eqb, ltb, ◌≢◌, List, [], ◌∷◌, length, get_or, sym, refl, ap, subst, add-zero, zero-add, add-one, arith}
+use Rattle.std.proofs.Common.{◌≡◌, ℕ, zero, suc, ◌+◌, ◌<◌, Bool, true, false, not, ◌||◌, eqb, ltb, ◌≢◌, List, [], ◌∷◌, length, get_or, sym, refl, ap, subst, add-zero, zero-add, add-one, arith, Some, None}
 use mathlib.Core.Path.{subst⁻¹}
 use Rattle.std.proofs.lemmas.Bool.{true≢false, false≢true, and_parts, eqb-true, eq-eqb, ltb-true, not-true, both_ways}
 use Rattle.rules.specs.Limits.{Limits}
 use Rattle.rules.specs.Expressions.{Expr, same?, Numeral, none, is, num_of, number?, or_zero}
 use Rattle.rules.specs.Notes.{Colour, green, blue, Register, Kind, mov, cpy, arith as arith-op, ld, st, jmp, bz, halt, Note, nothing, note, Notes, Pending, Dest, clear, jump, branch, Static, note_of, expr_of, target_of, next, colour?, noted?, has?, alike?, none?, clear?}
-use Rattle.rules.specs.Cards.{Slot, free, slot, Block, Card, chosen, meets?, meet_all?, met?, Entry, inside, start, entry, enters?}
+use Rattle.rules.specs.Cards.{Slot, Block, Card, chosen, meets?, meet_all?, met?, Entry, inside, start, entry, enters?}
 use Rattle.rules.specs.Rules.{oldest?, jump?, branch?, numeral?, target?, arrives?, needs, all?, own?, leaves?}
 use Rattle.rules.specs.Module.{Module, size, passable?, falls?, last?, rule?}
 
@@ -114,30 +114,30 @@ target_is bs S r t =
 
 -- a note meets a card's entry, θ giving each variable an expression
 abbrev pub Meets : (ℕ → Expr) → Slot → Note → Type 0
-Meets θ free n = Unit {0}
-Meets θ (slot c v) nothing = ⊥
-Meets θ (slot c v) (note d e) = (c ≡ d) × Same e (θ v.number)
+Meets θ None n = Unit {0}
+Meets θ (Some (c, v)) nothing = ⊥
+Meets θ (Some (c, v)) (note d e) = (c ≡ d) × Same e (θ v.number)
 
 -- a card is met: for some choice of expressions, every entry is
 abbrev pub Met : Card → Notes → Type 0
-Met K N = (θ : ℕ → Expr) × ((r : ℕ) → Meets θ (get_or K r free) (N r))
+Met K N = (θ : ℕ → Expr) × ((r : ℕ) → Meets θ (get_or K r None) (N r))
 
 meets_is : (θ : ℕ → Expr) (x : Slot) (n : Note) → meets? θ x n ≡ true → Meets θ x n
-meets_is θ free n t = tt
-meets_is θ (slot c v) nothing t = wrong t
-meets_is θ (slot c v) (note d e) t = let p = and_parts (colour? c d) (same? e (θ v.number)) t in (colour_is c d p.0, p.1)
+meets_is θ None n t = tt
+meets_is θ (Some (c, v)) nothing t = wrong t
+meets_is θ (Some (c, v)) (note d e) t = let p = and_parts (colour? c d) (same? e (θ v.number)) t in (colour_is c d p.0, p.1)
 
-meet_each : (θ : ℕ → Expr) (K : Card) (N : Notes) (k : ℕ) → meet_all? θ k K N ≡ true → (r : ℕ) → Meets θ (get_or K r free) (N (k + r))
+meet_each : (θ : ℕ → Expr) (K : Card) (N : Notes) (k : ℕ) → meet_all? θ k K N ≡ true → (r : ℕ) → Meets θ (get_or K r None) (N (k + r))
 meet_each θ [] N k t r = tt
 meet_each θ (x ∷ K) N k t zero =
     subst⁻¹ (λ j. Meets θ x (N j)) (add-zero k) (meets_is θ x (N k) (and_parts (meets? θ x (N k)) (meet_all? θ (k + 1) K N) t).0)
 meet_each θ (x ∷ K) N k t (suc r) =
     let e : k + 1 + r ≡ k + suc r = omega arith in
-    subst (λ j. Meets θ (get_or K r free) (N j)) e (meet_each θ K N (k + 1) (and_parts (meets? θ x (N k)) (meet_all? θ (k + 1) K N) t).1 r)
+    subst (λ j. Meets θ (get_or K r None) (N j)) e (meet_each θ K N (k + 1) (and_parts (meets? θ x (N k)) (meet_all? θ (k + 1) K N) t).1 r)
 
 met_is : (K : Card) (N : Notes) → met? K N ≡ true → Met K N
 unfolding met?
-met_is K N t = (chosen 0 K N, λ r. subst (λ j. Meets (chosen 0 K N) (get_or K r free) (N j)) (zero-add r) (meet_each (chosen 0 K N) K N 0 t r))
+met_is K N t = (chosen 0 K N, λ r. subst (λ j. Meets (chosen 0 K N) (get_or K r None) (N j)) (zero-add r) (meet_each (chosen 0 K N) K N 0 t r))
 
 -- a block starts there, and its card is met
 abbrev pub Enters : Entry → Notes → Type 0

@@ -1,9 +1,8 @@
--- A block's card says of each register that it is free, or has the colour and the value of a variable.
+-- A block's card says of each register its colour and the variable whose value it has, or nothing: it is free.
 pub use Rattle.isa.specs.declared.card.Variable.{Variable}
-pub use Rattle.isa.specs.declared.card.Slot.{Slot}
-pub use Rattle.isa.specs.declared.card.Slot.TheVariants.{Free as free, Coloured as slot}
+pub use Rattle.isa.specs.Layout.{Slot}
 pub use Rattle.isa.specs.declared.card.Block.{Block}
-use Rattle.std.specs.Prelude.{ℕ, ◌+◌, Bool, true, false, cond, ◌&&◌, List, [], ◌∷◌, ◌==◌, slice_index_or}
+use Rattle.std.specs.Prelude.{ℕ, ◌+◌, Bool, true, false, cond, ◌&&◌, List, [], ◌∷◌, ◌==◌, slice_index_or, Some, None}
 use Rattle.rules.specs.Expressions.{Expr, num, var, same?}
 use Rattle.rules.specs.Notes.{Note, nothing, note, Notes, clear, Static, expr_of, has?}
 
@@ -12,22 +11,22 @@ abbrev pub Card : Type 0
 Card = List Slot
 
 abbrev pub card_note : Slot → Note
-card_note free = nothing
-card_note (slot c v) = note c (var v.number)
+card_note None = nothing
+card_note (Some (c, v)) = note c (var v.number)
 
 -- what is known where a block with this card starts
 abbrev pub fresh : Card → Static
-fresh K = record { notes = λ r. card_note (slice_index_or K r free); pending = []; k_g = 0; k_b = 0; dest = clear }
+fresh K = record { notes = λ r. card_note (slice_index_or K r None); pending = []; k_g = 0; k_b = 0; dest = clear }
 
 -- the expression of the first register from r on that has the variable v, K being the card from r on
 abbrev pub chosen : ℕ → Card → Notes → ℕ → Expr
 chosen r [] N v = num 0
-chosen r (free ∷ K) N v = chosen (r + 1) K N v
-chosen r (slot c y ∷ K) N v = cond (y.number == v) (expr_of (N r)) (chosen (r + 1) K N v)
+chosen r (None ∷ K) N v = chosen (r + 1) K N v
+chosen r (Some (c, y) ∷ K) N v = cond (y.number == v) (expr_of (N r)) (chosen (r + 1) K N v)
 
 abbrev pub meets? : (ℕ → Expr) → Slot → Note → Bool
-meets? θ free n = true
-meets? θ (slot c v) n = has? c n && same? (expr_of n) (θ v.number)
+meets? θ None n = true
+meets? θ (Some (c, v)) n = has? c n && same? (expr_of n) (θ v.number)
 
 abbrev pub meet_all? : (ℕ → Expr) → ℕ → Card → Notes → Bool
 meet_all? θ r [] N = true

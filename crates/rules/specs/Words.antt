@@ -1,5 +1,5 @@
 -- The module that words are, and what the check says of them.
-use Rattle.std.specs.Prelude.{◌≡◌, ℕ, ◌+◌, ◌-◌, ◌*◌, ◌/◌, ◌%◌, true, cond, ◌&&◌, List, map, length, take, ◌==◌, nat_le, nat_lt}
+use Rattle.std.specs.Prelude.{◌≡◌, ℕ, ◌+◌, ◌-◌, ◌*◌, ◌/◌, ◌%◌, true, cond, ◌&&◌, List, map, length, take, ◌==◌, nat_le, nat_lt, Some, None}
 use Rattle.std.proofs.Common.{mod-lt, lit<}
 use Rattle.std.specs.List.{range_with_len}
 use Rattle.std.proofs.lemmas.List.FromFn.{length-map-range_with_len}
@@ -7,7 +7,7 @@ use Rattle.isa.specs.Words.{kind_of}
 use Rattle.isa.specs.Layout.{word, kind_at, start_at, card_byte, code_fits, block_fits, every}
 use Rattle.rules.specs.Limits.{Limits}
 use Rattle.rules.specs.Notes.{Kind, green, blue}
-use Rattle.rules.specs.Cards.{Variable, Slot, free, slot, Block, Card}
+use Rattle.rules.specs.Cards.{Variable, Slot, Block, Card}
 use Rattle.rules.specs.Module.{Module, Keeps}
 
 -- the k-th instruction of code words, two words each
@@ -28,9 +28,9 @@ variable n = record { number = n % 32; low = mod-lt n (lit< tt) }
 -- a byte of a card: 0 is free, 1 to 32 is green variable 0 to 31, 129 to 160 is blue variable 0 to 31
 abbrev pub slot_of : ℕ → Slot
 slot_of x =
-    cond (x == 0) free
-    (cond (nat_le x 32) (slot green (variable (x - 1)))
-    (cond (nat_le 129 x && nat_le x 160) (slot blue (variable (x - 129))) free))
+    cond (x == 0) None
+    (cond (nat_le x 32) (Some (green, variable (x - 1)))
+    (cond (nat_le 129 x && nat_le x 160) (Some (blue, variable (x - 129))) None))
 
 -- the card of block b, n being the count of instructions
 abbrev pub card_of : List ℕ → ℕ → ℕ → Card

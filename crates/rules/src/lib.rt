@@ -1,20 +1,13 @@
 // The rules of the check as definitions, and what stands of them.
 #![tactic(auto)]
 
-pub mod stands;
-
 ghost use Rattle.std.specs.Prelude.{◌≡◌};
 ghost use Rattle.rules.specs.Limits.{in_force};
 ghost use Rattle.rules.specs.Copies.{CopiesStand};
 ghost use Rattle.rules.specs.Met.{CardStands};
 ghost use Rattle.rules.specs.Part.{PartStands};
 
-// The stores that green may be ahead of blue, by the limits in force.
-fn pending_limit() -> u8
-    ensures { result ≡ in_force.queue }
-{
-    16
-}
+use isa::limits::QUEUE;
 
 // Carries the theorems on the rules; answers how many stores may be pending by the limits in force.
 // `cards`: what decides that a card is met says that each coloured register has a note of that colour,
@@ -29,5 +22,5 @@ pub fn rules_stand() -> u8
     ensures parts { PartStands }
     ensures copies { CopiesStand }
 {
-    pending_limit()
+    QUEUE as u8
 }

@@ -1,5 +1,6 @@
 -- The commands of a script, by the words of a line.
 use Rattle.std.specs.Prelude.{ℕ, cond, List, [], ◌∷◌, Some, None, codes, Option}
+use Rattle.std.specs.Option.{option_or}
 use Rattle.std.specs.Str.{bytes_eq}
 use Rattle.script.specs.declared.command.Command.{Command}
 use Rattle.script.specs.declared.command.Command.TheVariants as command
@@ -26,12 +27,8 @@ call_of w =
     (cond (bytes_eq w (codes "show")) (Some verb.Show)
     (cond (bytes_eq w (codes "clear")) (Some verb.Clear) None)))))))
 
-abbrev pub either : Option Verb → Option Verb → Option Verb
-either (Some v) other = Some v
-either None other = other
-
 abbrev pub verb_of : List ℕ → Option Verb
-verb_of w = either (setting_of w) (call_of w)
+verb_of w = option_or (setting_of w) (call_of w)
 
 -- where a part is none, so is the whole
 abbrev pub with : {X Y : Type 0} → Option X → (X → Option Y) → Option Y

@@ -1,5 +1,5 @@
 // The commands of a script.
-ghost use Rattle.std.specs.Prelude.{◌≡◌, [], slice_index_or};
+ghost use Rattle.std.specs.Prelude.{◌≡◌, slice_get};
 ghost use Rattle.std.specs.Option.{option_map};
 ghost use Rattle.text.specs.Bytes.{words};
 ghost use Rattle.script.specs.Commands.{one, two, alone as alone_of, number as number_of, numbers as numbers_of, said as said_of, command_of};
@@ -26,48 +26,28 @@ pub enum Command {
     Clear,
 }
 
-// Two words of a line.
-#[derive(Clone, Copy)]
-struct Pair<'a> {
-    first: &'a [u8],
-    second: &'a [u8],
-}
-
 // The command, if no word stands in what is left of its line.
 fn alone(rest: &[u8], command: Command) -> Option<Command>
     ensures { result ≡ alone_of (words rest.now) command }
 {
-    if first_word(rest).part.is_empty() {
-        Some(command)
-    } else {
-        None
-    }
+    first_word(rest).is_none().then_some(command)
 }
 
 // The word that is left of a line, if it is one.
 fn only(rest: &[u8]) -> Option<&[u8]>
     ensures { option_map (λ x. x.now) result ≡ one (words rest.now) }
 {
-    let first = first_word(rest);
-    if first.part.is_empty() || !first_word(first.rest).part.is_empty() {
-        return None;
-    }
-    Some(first.part)
+    let first = first_word(rest)?;
+    first_word(first.rest).is_none().then_some(first.part)
 }
 
 // The two words that are left of a line, if there are two.
-fn both(rest: &[u8]) -> Option<Pair<'_>>
-    ensures { option_map (λ p. (p.first.now, p.second.now)) result ≡ two (words rest.now) }
+fn both(rest: &[u8]) -> Option<(&[u8], &[u8])>
+    ensures { option_map (λ p. (p.0.now, p.1.now)) result ≡ two (words rest.now) }
 {
-    let split = first_word(rest);
-    if split.part.is_empty() {
-        return None;
-    }
-    let second = only(split.rest)?;
-    Some(Pair {
-        first: split.part,
-        second,
-    })
+    let first = first_word(rest)?;
+    let second = only(first.rest)?;
+    Some((first.part, second))
 }
 
 // A number of 32 bits that is left of a line, alone.
@@ -81,37 +61,31 @@ fn number(rest: &[u8]) -> Option<u32>
 fn numbers(rest: &[u8]) -> Option<(u32, u32)>
     ensures { result ≡ numbers_of (words rest.now) }
 {
-    let pair = both(rest)?;
-    let first = word(pair.first)?;
-    let second = word(pair.second)?;
-    Some((first, second))
+    let (first, second) = both(rest)?;
+    Some((word(first)?, word(second)?))
 }
 
 // A window's start and length.
 fn window(rest: &[u8]) -> Option<Command>
     ensures { result ≡ said_of Verb.Window (words rest.now) }
 {
-    let pair = both(rest)?;
-    let start = wide(pair.first)?;
-    let length = wide(pair.second)?;
-    Some(Command::Window { start, length })
+    let (start, length) = both(rest)?;
+    Some(Command::Window {
+        start: wide(start)?,
+        length: wide(length)?,
+    })
 }
 
 // The command of a verb with what is left of its line.
+// Stays (7): no plainer: what stands behind a verb differs from verb to verb, as the definition of commands says.
 fn with_verb(verb: Verb, rest: &[u8]) -> Option<Command>
     ensures { result ≡ said_of verb (words rest.now) }
 {
     match verb {
         Verb::Cells => Some(Command::Cells),
         Verb::Window => window(rest),
-        Verb::Plan => {
-            only(rest)?;
-            Some(Command::Plan)
-        }
-        Verb::Module => {
-            only(rest)?;
-            Some(Command::Module)
-        }
+        Verb::Plan => only(rest).map(|_| Command::Plan),
+        Verb::Module => only(rest).map(|_| Command::Module),
         Verb::Load => alone(rest, Command::Load),
         Verb::Put => {
             let (address, word) = numbers(rest)?;
@@ -139,20 +113,16 @@ fn with_verb(verb: Verb, rest: &[u8]) -> Option<Command>
 pub fn command_of(line: &[u8]) -> Option<Command>
     ensures { result ≡ command_of (words line.now) }
 {
-    let split = first_word(line);
-    if split.part.is_empty() {
+    let Some(first) = first_word(line) else {
         return Some(Command::Blank);
-    }
-    with_verb(verb_of(split.part)?, split.rest)
+    };
+    with_verb(verb_of(first.part)?, first.rest)
 }
 
-// The second word of a line, or an empty one.
-pub fn second_word(line: &[u8]) -> &[u8]
-    ensures { result.now ≡ slice_index_or (words line.now) 1 [] }
+// The second word of a line, if there is one.
+pub fn second_word(line: &[u8]) -> Option<&[u8]>
+    ensures { option_map (λ x. x.now) result ≡ slice_get (words line.now) 1 }
 {
-    let split = first_word(line);
-    if split.part.is_empty() {
-        return split.part;
-    }
-    first_word(split.rest).part
+    let first = first_word(line)?;
+    Some(first_word(first.rest)?.part)
 }

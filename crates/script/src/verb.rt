@@ -1,7 +1,6 @@
 // The words that lines begin with.
 ghost use Rattle.std.specs.Prelude.{◌≡◌};
-ghost use Rattle.std.specs.Str.{bytes_eq};
-ghost use Rattle.script.specs.Commands.{setting_of, call_of, verb_of};
+ghost use Rattle.script.specs.Commands.{verb_of};
 
 #[derive(Clone, Copy)]
 pub(crate) enum Verb {
@@ -19,68 +18,23 @@ pub(crate) enum Verb {
     Clear,
 }
 
-// Whether these letters are this word.
-fn same(letters: &[u8], word: &[u8]) -> bool
-    ensures { result ≡ bytes_eq letters.now word.now }
-{
-    letters == word
-}
-
-// The verbs of lines that say what there is.
-fn setting(letters: &[u8]) -> Option<Verb>
-    ensures { result ≡ setting_of letters.now }
-{
-    if same(letters, b"cells") {
-        return Some(Verb::Cells);
-    }
-    if same(letters, b"window") {
-        return Some(Verb::Window);
-    }
-    if same(letters, b"plan") {
-        return Some(Verb::Plan);
-    }
-    if same(letters, b"module") {
-        return Some(Verb::Module);
-    }
-    None
-}
-
-// The verbs of calls.
-fn call(letters: &[u8]) -> Option<Verb>
-    ensures { result ≡ call_of letters.now }
-{
-    if same(letters, b"load") {
-        return Some(Verb::Load);
-    }
-    if same(letters, b"put") {
-        return Some(Verb::Put);
-    }
-    if same(letters, b"run") {
-        return Some(Verb::Run);
-    }
-    if same(letters, b"strike") {
-        return Some(Verb::Strike);
-    }
-    if same(letters, b"look") {
-        return Some(Verb::Look);
-    }
-    if same(letters, b"probe") {
-        return Some(Verb::Probe);
-    }
-    if same(letters, b"show") {
-        return Some(Verb::Show);
-    }
-    if same(letters, b"clear") {
-        return Some(Verb::Clear);
-    }
-    None
-}
-
+// The verb that letters are, of lines that say what there is and of calls.
 pub(crate) fn verb_of(letters: &[u8]) -> Option<Verb>
     ensures { result ≡ verb_of letters.now }
 {
-    match setting(letters) {
-        Some(verb) => Some(verb),
-        None => call(letters),
+    match letters {
+        b"cells" => Some(Verb::Cells),
+        b"window" => Some(Verb::Window),
+        b"plan" => Some(Verb::Plan),
+        b"module" => Some(Verb::Module),
+        b"load" => Some(Verb::Load),
+        b"put" => Some(Verb::Put),
+        b"run" => Some(Verb::Run),
+        b"strike" => Some(Verb::Strike),
+        b"look" => Some(Verb::Look),
+        b"probe" => Some(Verb::Probe),
+        b"show" => Some(Verb::Show),
+        b"clear" => Some(Verb::Clear),
+        _ => None,
     }
 }

@@ -2,9 +2,8 @@
 use Rattle.std.proofs.Common.{◌≡◌, List, [], ◌∷◌, ◌++◌}
 use mathlib.Core.Path.{subst₃}
 use Rattle.simulator.specs.Model.{Model}
-use Rattle.simulator.specs.Replay.{Responds, Replays}
+use Rattle.simulator.specs.Replay.{Answer, Responds, Replays}
 use Rattle.simulator.specs.Replay.Replays.{none, more}
-use Rattle.simulator.specs.declared.call.Answer.{Answer}
 use Rattle.simulator.specs.declared.call.Call.{Call}
 
 pub replays_more : {s m t : Model} {qs : List Call} {answers : List Answer} {q : Call} {a : Answer} → Replays s qs answers m → Responds q m a t → Replays s (qs ++ q ∷ []) (answers ++ a ∷ []) t

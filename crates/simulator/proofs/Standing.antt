@@ -1,5 +1,9 @@
 -- What stands of a simulator after any list of calls.
 use Rattle.std.proofs.Common.{◌≡◌, ℕ, zero, suc, ◌+◌, ◌≤◌, Bool, true, cond, ◌||◌, eqb, ltb, List, [], ◌∷◌, length, Some, None, Ok, Err, Option, sym, refl, ap, ◌∙◌, subst, subst₂, le_refl, arith}
+use Rattle.std.proofs.Math.Numerals.{suc-eq-add-one}
+use Rattle.std.proofs.lemmas.Option.{none-some}
+use Rattle.std.proofs.lemmas.Bool.{false≢true, cond_both}
+use Rattle.std.proofs.lemmas.List.{nil_from_length}
 use mathlib.Core.Path.{subst⁻¹}
 use Rattle.memory.specs.Cells.{Cells, replaced, stored}
 use Rattle.isa.specs.declared.kinds.Kind.{Kind}
@@ -17,8 +21,7 @@ use Rattle.soundness.specs.Finding.{AreWords, AreCells, Outcomes}
 use Rattle.soundness.proofs.Passed.{passes_passed}
 use Rattle.soundness.proofs.Words.{reached_words}
 use Rattle.soundness.proofs.Finding.{finding}
-use Rattle.simulator.specs.declared.call.Answer.{Answer}
-use Rattle.simulator.specs.declared.call.Answer.TheVariants.{Ran, Struck}
+use Rattle.simulator.specs.declared.call.Reply.TheVariants.{Ran, Struck}
 use Rattle.simulator.specs.declared.call.Call.{Call}
 use Rattle.simulator.specs.declared.call.Call.TheVariants.{Load, Put, Run, Strike, Look, Probe, Show, Clear}
 use Rattle.simulator.specs.declared.place.Place.{Place}
@@ -27,10 +30,10 @@ use Rattle.simulator.specs.declared.refusal.Refusal.TheVariants as refusal
 use Rattle.simulator.specs.Calls.{Answered, puts, goes, runs, hit, strikes_place, strikes as striking, clears}
 use Rattle.simulator.specs.Model.{Loaded, Model}
 use Rattle.simulator.specs.Places.{place_of, latch, struck, Low}
-use Rattle.simulator.specs.Replay.{Verdict, verdict, answered, load_words, respond, JudgedCall, Sized, Responds, Replays}
+use Rattle.simulator.specs.Replay.{Answer, Verdict, verdict, answered, load_words, respond, JudgedCall, Sized, Responds, Replays}
 use Rattle.simulator.specs.Replay.Replays.{none, more}
 use Rattle.simulator.specs.Since.{Since, nothing, at_load, at_run, at_strike, entered, since, RunFound, FoundIn, FoundAfter}
-use Rattle.simulator.proofs.Striking.{placed, struck-is, cells-kept, split, LowIf, place-low}
+use Rattle.simulator.proofs.Striking.{placed, struck-is, cells-kept, LowIf, place-low}
 
 -- what stands of a module that is loaded, over these cells
 record Held (w : ℕ → Bool) (l : Since) (cells : Cells) (x : Loaded) : Type 0 where
@@ -60,7 +63,7 @@ reached_after r (suc n) = stepped (reached_after r n)
 
 step_counts : (w : ℕ → Bool) (code : List Kind) (x : machine.Run) → x.steps ≤ (step w code x).steps
 step_counts w code x =
-    split (λ (y : machine.Run). x.steps ≤ y.steps) (going? x.end) (counted x (settled x.state (act w code x.state))) x (λ _. omega arith) (λ _. le_refl _)
+    cond_both (going? x.end) (counted x (settled x.state (act w code x.state))) x (λ (y : machine.Run). x.steps ≤ y.steps) (λ _. omega arith) (λ _. le_refl _)
 
 after_counts : (w : ℕ → Bool) (code : List Kind) (x : machine.Run) (n : ℕ) → x.steps ≤ (after w code x n).steps
 after_counts w code x zero = le_refl _
@@ -68,12 +71,9 @@ after_counts w code x (suc n) = omega (arith, after_counts w code x n, step_coun
 
 is-going : (e : End) → going? e ≡ true → e ≡ Going
 is-going Going h = refl
-is-going Halted h = let z : ◌≡◌ {A = ℕ} 0 1 = cc in absurd (omega arith)
-is-going NoSuchCell h = let z : ◌≡◌ {A = ℕ} 0 1 = cc in absurd (omega arith)
-is-going (Reported r) h = let z : ◌≡◌ {A = ℕ} 0 1 = cc in absurd (omega arith)
-
-one_up : (n : ℕ) → suc n ≡ n + 1
-one_up n = omega arith
+is-going Halted h = absurd (false≢true h)
+is-going NoSuchCell h = absurd (false≢true h)
+is-going (Reported r) h = absurd (false≢true h)
 
 cells-words : (w : ℕ → Bool) (l : Since) (hits : List strikes.Strike) (x : machine.Run) → AreWords l.words → Passes in_force l.words → AreCells l.cells →
     Reached w (module_of l.words).code l.cells hits x → AreCells x.state.cells
@@ -99,12 +99,12 @@ module _ (w : ℕ → Bool) (l : Since) (mine : Cells) (same : mine.writable ≡
   -- a word stored leaves words
   stored_words : (a v : ℕ) → IsWord v → (b : Bool) → AreCells (cond b (replaced mine.word a v) mine.word)
   stored_words a v k b x h =
-      split (λ (f : ℕ → ℕ). IsWord (f x)) b (replaced mine.word a v) mine.word (λ _. split IsWord (eqb x a) v (mine.word x) (λ _. k) (λ _. words x h)) (λ _. words x h)
+      cond_both b (replaced mine.word a v) mine.word (λ (f : ℕ → ℕ). IsWord (f x)) (λ _. cond_both (eqb x a) v (mine.word x) IsWord (λ _. k) (λ _. words x h)) (λ _. words x h)
 
   put_stands : (a v : ℕ) → IsWord v → (o : Option Loaded) → Holds w l mine o → Stands w l (puts a v (at o)).1
   put_stands a v k (Some x) h = still (Some x) h
   put_stands a v k None h =
-      split (λ (r : Answered (Unit {0})). Stands w l r.1) (mine.writable a) (Ok tt, record { cells = stored mine a v; loaded = None }) (Err refusal.NoSuchCell, at None)
+      cond_both (mine.writable a) (Ok tt, record { cells = stored mine a v; loaded = None }) (Err refusal.NoSuchCell, at None) (λ (r : Answered (Unit {0})). Stands w l r.1)
       (λ _. record { same = same; words = stored_words a v k (mine.writable a); held = tt }) (λ _. still None tt)
 
   abbrev AfterRun : Answered (ℕ × End) → Type 0
@@ -139,9 +139,9 @@ module _ (w : ℕ → Bool) (l : Since) (mine : Cells) (same : mine.writable ≡
       let no : (e : Refusal) → AfterRun (Err e, s) = λ e. still (Some x) h in
       let far : Answered (ℕ × End) = cond (ltb 1000000000 (x.run.steps + n)) (Err refusal.TooManySteps, s) (goes n s x) in
       let near : Answered (ℕ × End) = cond (eqb n 0 || ltb 1000000 n) (Err refusal.BadCount, s) far in
-      split AfterRun (going? x.run.end) near (Err refusal.NotUnderWay, s)
-      (λ _. split AfterRun (eqb n 0 || ltb 1000000 n) (Err refusal.BadCount, s) far (λ _. no refusal.BadCount)
-      (λ _. split AfterRun (ltb 1000000000 (x.run.steps + n)) (Err refusal.TooManySteps, s) (goes n s x) (λ _. no refusal.TooManySteps) (λ _. gone n x h)))
+      cond_both (going? x.run.end) near (Err refusal.NotUnderWay, s) AfterRun
+      (λ _. cond_both (eqb n 0 || ltb 1000000 n) (Err refusal.BadCount, s) far AfterRun (λ _. no refusal.BadCount)
+      (λ _. cond_both (ltb 1000000000 (x.run.steps + n)) (Err refusal.TooManySteps, s) (goes n s x) AfterRun (λ _. no refusal.TooManySteps) (λ _. gone n x h)))
       (λ _. no refusal.NotUnderWay)
 
   abbrev AfterStrike : Answered ℕ → Type 0
@@ -164,7 +164,7 @@ module _ (w : ℕ → Bool) (l : Since) (mine : Cells) (same : mine.writable ≡
           words = h.words;
           code = h.code;
           hits = now ∷ h.hits;
-          count = ap suc h.count ∙ one_up l.strikes;
+          count = ap suc h.count ∙ suc-eq-add-one l.strikes;
           reached = r;
           steps = h.steps;
           looked = cells-kept p v x.run.state ∙ h.looked;
@@ -178,7 +178,7 @@ module _ (w : ℕ → Bool) (l : Since) (mine : Cells) (same : mine.writable ≡
   strike_stands : (n v : ℕ) → IsWord v → (o : Option Loaded) → Holds w l mine o → AfterStrike (striking n v (at o))
   strike_stands n v k None h = still None tt
   strike_stands n v k (Some x) h =
-      split AfterStrike (going? x.run.end) (strikes_place v (at (Some x)) x (place_of n)) (Err refusal.NotUnderWay, at (Some x))
+      cond_both (going? x.run.end) (strikes_place v (at (Some x)) x (place_of n)) (Err refusal.NotUnderWay, at (Some x)) AfterStrike
       (λ e. place_stands v x k (is-going x.run.end e) h (place_of n) (place-low n)) (λ _. still (Some x) h)
 
   clear_stands : (o : Option Loaded) → Holds w l mine o → Stands w l (clears (at o)).1
@@ -204,10 +204,6 @@ stands_on l h none = h
 stands_on {w} {t = t} l h (more {s = s} {m = m} {c = c} {a = a} {cs = cs} {rest = rest} r rs) =
     subst (λ (u : Model). Stands w (since (entered l s c a) u cs rest) t) r.after (stands_on (entered l s c a) (one_more h r) rs)
 
-no_hits : (hits : List strikes.Strike) → length hits ≡ 0 → hits ≡ []
-no_hits [] e = refl
-no_hits (x ∷ hits) e = let z : suc (length hits) ≡ 0 = e in absurd (omega arith)
-
 -- what stands is found, by the theorem on strikes
 found_run : (w : ℕ → Bool) (l : Since) (t : Model) (x : Loaded) → Held w l t.cells x → RunFound w l t x
 found_run w l t x h =
@@ -216,7 +212,7 @@ found_run w l t x h =
       code = h.code;
       looked = h.looked;
       steps = h.steps;
-      calm = λ z. o.calm (no_hits h.hits (h.count ∙ z));
+      calm = λ z. o.calm (nil_from_length h.hits (h.count ∙ z));
       single = λ z. o.single (subst⁻¹ (λ n. n ≤ 1) h.count z);
     }
 
@@ -226,7 +222,7 @@ found_in w l t (Some x) h = found_run w l t x h
 
 idle_held : (w : ℕ → Bool) (l : Since) (cells : Cells) (o : Option Loaded) → o ≡ None → Holds w l cells o
 idle_held w l cells None e = tt
-idle_held w l cells (Some x) e = let z : ◌≡◌ {A = ℕ} 0 1 = cc in absurd (omega arith)
+idle_held w l cells (Some x) e = absurd (none-some x (sym e))
 
 pub found_after : {s t : Model} {cs : List Call} {answers : List Answer} → Replays s cs answers t → FoundAfter s cs answers t
 found_after {s} {t} {cs} {answers} r idle words =

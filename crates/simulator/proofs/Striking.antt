@@ -1,8 +1,9 @@
 -- A strike of the simulator is one of those that the theorem on strikes speaks of.
-use Rattle.std.proofs.Common.{◌≡◌, ℕ, zero, suc, ◌-◌, ◌<◌, Bool, true, false, cond, eqb, ltb, List, [], ◌∷◌, length, get_or, set, Some, None, Option, sym, refl, ap, ◌∙◌, arith}
+use Rattle.std.proofs.Common.{◌≡◌, ℕ, ◌-◌, true, eqb, ltb, length, set, Some, None, Option, sym, refl, ap, ◌∙◌}
 use Rattle.std.specs.Option.{option_map}
 use Rattle.std.specs.List.{slice_get}
-use Rattle.std.proofs.lemmas.Bool.{ltb-true, lt-ltb}
+use Rattle.std.proofs.lemmas.Bool.{cond_both, ltb-true, lt-ltb}
+use Rattle.std.proofs.lemmas.Option.{none-some, get_or_from_slice_get, slice_get_within}
 use Rattle.isa.specs.declared.kinds.Colour.TheVariants.{Green, Blue}
 use Rattle.machine.specs.declared.queue.Pair.{Pair}
 use Rattle.machine.specs.Machine.{State, with_queue}
@@ -20,22 +21,15 @@ placed Destination = strikes.destination
 placed (PairAddress i) = strikes.address i
 placed (PairWord i) = strikes.word i
 
-none≢some : {T : Type 0} {x : T} → None ≡ Some x → ⊥
-none≢some e = let z : ◌≡◌ {A = ℕ} 0 1 = cc in absurd (omega arith)
-
--- pair i is there, and is p
-nth_is : (q : List Pair) (i : ℕ) (p : Pair) → slice_get q i ≡ Some p → (i < length q) × (get_or q i (record { address = 0; word = 0 }) ≡ p)
-nth_is [] i p e = absurd (none≢some e)
-nth_is (x ∷ q) zero p e = (omega arith, cc)
-nth_is (x ∷ q) (suc i) p e = let h = nth_is q i p e in (omega (arith, h.0), h.1)
-
 -- a pair that there is, changed
 pair_struck : (s : State) (i : ℕ) (f : Pair → Pair) (o : Option Pair) → slice_get s.queue i ≡ o → (g : Pair → ℕ) (old : ℕ) → option_map g o ≡ Some old →
     (ltb i (length s.queue) ≡ true) × (with_queue s (changed f i s.queue) ≡ with_queue s (set s.queue i (f (strikes.pair_at s i))))
-pair_struck s i f None e g old h = absurd (none≢some h)
+pair_struck s i f None e g old h = absurd (none-some old h)
 pair_struck s i f (Some p) e g old h =
-    let k = nth_is s.queue i p e in
-    (lt-ltb i (length s.queue) k.0, ap (λ o. with_queue s (changed_at o f i s.queue)) e ∙ ap (λ x. with_queue s (set s.queue i (f x))) (sym k.1))
+    let here = get_or_from_slice_get s.queue i p (record { address = 0; word = 0 }) e in (
+      lt-ltb i (length s.queue) (slice_get_within s.queue i p e),
+      ap (λ o. with_queue s (changed_at o f i s.queue)) e ∙ ap (λ x. with_queue s (set s.queue i (f x))) (sym here),
+    )
 
 -- where there is a latch, the strike is that of the theorem
 pub struck-is : (p : Place) (v old : ℕ) (s : State) → Low p → latch p s ≡ Some old → (strikes.there? s (placed p) ≡ true) × (struck p v s ≡ strikes.strike (placed p) v s)
@@ -55,11 +49,6 @@ cells-kept Destination v s = refl
 cells-kept (PairAddress i) v s = refl
 cells-kept (PairWord i) v s = refl
 
--- a choice, with what is known of its test
-pub split : {T : Type 0} (P : T → Type 0) (b : Bool) (x y : T) → (b ≡ true → P x) → (b ≡ false → P y) → P (cond b x y)
-split P true x y h k = h refl
-split P false x y h k = k refl
-
 abbrev pub LowIf : Option Place → Type 0
 LowIf None = Unit {0}
 LowIf (Some p) = Low p
@@ -67,9 +56,9 @@ LowIf (Some p) = Low p
 -- a place by its number is one that there is
 pub place-low : (n : ℕ) → LowIf (place_of n)
 place-low n =
-    split LowIf (ltb n 32) (Some (Register n)) _ (λ e. ltb-true n 32 e) λ _.
-    split LowIf (eqb n 32) (Some CounterGreen) _ (λ _. tt) λ _.
-    split LowIf (eqb n 33) (Some CounterBlue) _ (λ _. tt) λ _.
-    split LowIf (eqb n 34) (Some Destination) _ (λ _. tt) λ _.
-    split LowIf (ltb n 51) (Some (PairAddress (n - 35))) _ (λ _. tt) λ _.
-    split LowIf (ltb n 67) (Some (PairWord (n - 51))) None (λ _. tt) (λ _. tt)
+    cond_both (ltb n 32) (Some (Register n)) _ LowIf (λ e. ltb-true n 32 e) λ _.
+    cond_both (eqb n 32) (Some CounterGreen) _ LowIf (λ _. tt) λ _.
+    cond_both (eqb n 33) (Some CounterBlue) _ LowIf (λ _. tt) λ _.
+    cond_both (eqb n 34) (Some Destination) _ LowIf (λ _. tt) λ _.
+    cond_both (ltb n 51) (Some (PairAddress (n - 35))) _ LowIf (λ _. tt) λ _.
+    cond_both (ltb n 67) (Some (PairWord (n - 51))) None LowIf (λ _. tt) (λ _. tt)

@@ -1,5 +1,5 @@
 -- The places of strikes, by their numbers.
-use Rattle.std.specs.Prelude.{ℕ, ◌-◌, ◌<◌, cond, List, Some, None, Option, ◌==◌, nat_lt, slice_set}
+use Rattle.std.specs.Prelude.{◌≡◌, ℕ, ◌-◌, ◌<◌, cond, List, Some, None, Option, ◌==◌, nat_lt, slice_set}
 use Rattle.std.specs.Option.{option_map}
 use Rattle.std.specs.List.{slice_get}
 use Rattle.memory.specs.Cells.{replaced}
@@ -34,6 +34,11 @@ changed_at (Some p) f i q = slice_set q i (f p)
 
 abbrev pub changed : (Pair → Pair) → ℕ → List Pair → List Pair
 changed f i q = changed_at (slice_get q i) f i q
+
+-- the same, by a relation of the old pair to the new one
+abbrev pub ChangesPair : (Pair → Pair → Type 0) → Option Pair → ℕ → List Pair → List Pair → Type 0
+ChangesPair R None i q r = r ≡ q
+ChangesPair R (Some p) i q r = (new : Pair) × R p new × (r ≡ slice_set q i new)
 
 abbrev pub with_address : ℕ → Pair → Pair
 with_address v p = record { address = v; word = p.word }

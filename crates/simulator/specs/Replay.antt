@@ -5,8 +5,10 @@ use Rattle.checker.specs.declared.fault.CheckFault.{CheckFault}
 use Rattle.checker.specs.Passing.{Judged}
 use Rattle.soundness.specs.Strikes.{Word as IsWord}
 use Rattle.soundness.specs.Finding.{AreWords}
-use Rattle.simulator.specs.declared.call.Answer.{Answer}
-use Rattle.simulator.specs.declared.call.Answer.TheVariants.{Done, Unfit, Ran, Struck, Word, Shown, Refused}
+use Rattle.simulator.specs.declared.call.Reply.{Reply}
+use Rattle.simulator.specs.declared.call.Reply.TheVariants.{Done, Ran, Struck, Word, Shown}
+use Rattle.simulator.specs.declared.call.CallFault.{CallFault}
+use Rattle.simulator.specs.declared.call.CallFault.TheVariants.{Unfit, Refused}
 use Rattle.simulator.specs.declared.call.Call.{Call}
 use Rattle.simulator.specs.declared.call.Call.TheVariants.{Load, Put, Run, Strike, Look, Probe, Show, Clear}
 use Rattle.simulator.specs.declared.refusal.Refusal.{Refusal}
@@ -17,26 +19,26 @@ use Rattle.simulator.specs.Model.{Model}
 abbrev pub Verdict : Type 0
 Verdict = Result (Unit {0}) CheckFault
 
+-- a reply, or why the call was not made
+abbrev pub Answer : Type 0
+Answer = Result Reply CallFault
+
 abbrev pub verdict : Answer → Verdict
-verdict Done = Ok tt
-verdict (Unfit f) = Err f
-verdict (Ran n e) = Ok tt
-verdict (Struck n) = Ok tt
-verdict (Word v) = Ok tt
-verdict (Shown s) = Ok tt
-verdict (Refused e) = Ok tt
+verdict (Ok r) = Ok tt
+verdict (Err (Unfit f)) = Err f
+verdict (Err (Refused e)) = Ok tt
 
-abbrev pub by_result : {T : Type 0} → (T → Answer) → Result T Refusal → Answer
-by_result f (Ok x) = f x
-by_result f (Err e) = Refused e
+abbrev pub by_result : {T : Type 0} → (T → Reply) → Result T Refusal → Answer
+by_result f (Ok x) = Ok (f x)
+by_result f (Err e) = Err (Refused e)
 
-abbrev pub answered : {T : Type 0} → (T → Answer) → Answered T → Answer × Model
+abbrev pub answered : {T : Type 0} → (T → Reply) → Answered T → Answer × Model
 answered f r = (by_result f r.0, r.1)
 
 -- words that pass are loaded; others are no call of the simulator, and change nothing
 abbrev pub load_words : Verdict → List ℕ → Model → Answer × Model
 load_words (Ok u) ws s = answered (λ _. Done) (loads (module_of ws).code s)
-load_words (Err f) ws s = (Unfit f, s)
+load_words (Err f) ws s = (Err (Unfit f), s)
 
 -- the answer to a call, and the simulator after it
 abbrev pub respond : Verdict → Call → Model → Answer × Model
@@ -44,9 +46,9 @@ respond v (Load ws) s = load_words v ws.now s
 respond v (Put address word) s = answered (λ _. Done) (puts address word s)
 respond v (Run n) s = answered (λ t. Ran t.0 t.1) (runs n s)
 respond v (Strike place value) s = answered Struck (strikes place value s)
-respond v (Look address) s = (Word (looks address s), s)
+respond v (Look address) s = (Ok (Word (looks address s)), s)
 respond v (Probe place) s = (by_result Word (probes place s), s)
-respond v Show s = (Shown (shows s), s)
+respond v Show s = (Ok (Shown (shows s)), s)
 respond v Clear s = answered (λ _. Done) (clears s)
 
 -- the verdict is that of the check

@@ -1,13 +1,12 @@
 -- What happened since the last accepted load, and what is found then.
-use Rattle.std.specs.Prelude.{◌≡◌, ℕ, ◌+◌, ◌≤◌, Bool, List, [], ◌∷◌, Some, None, Option}
+use Rattle.std.specs.Prelude.{◌≡◌, ℕ, ◌+◌, ◌≤◌, Bool, List, [], ◌∷◌, Some, None, Ok, Err, Option}
 use Rattle.rules.specs.Words.{module_of}
 use Rattle.soundness.specs.Finding.{IsReport, Undisturbed, Found, AreCells}
-use Rattle.simulator.specs.declared.call.Answer.{Answer}
-use Rattle.simulator.specs.declared.call.Answer.TheVariants.{Done, Unfit, Ran, Struck, Word, Shown, Refused}
+use Rattle.simulator.specs.declared.call.Reply.TheVariants.{Done, Ran, Struck, Word, Shown}
 use Rattle.simulator.specs.declared.call.Call.{Call}
 use Rattle.simulator.specs.declared.call.Call.TheVariants.{Load, Put, Run, Strike, Look, Probe, Show, Clear}
 use Rattle.simulator.specs.Model.{Loaded, Model}
-use Rattle.simulator.specs.Replay.{respond, verdict}
+use Rattle.simulator.specs.Replay.{Answer, respond, verdict}
 
 -- the module's words and the cells at the load, and the strikes accepted and the steps answered since
 pub record Since : Type 0 where
@@ -21,33 +20,30 @@ nothing = record { words = []; cells = λ a. 0; strikes = 0; steps = 0 }
 
 -- an accepted load begins anew
 abbrev pub at_load : List ℕ → (ℕ → ℕ) → Since → Answer → Since
-at_load ws cells l Done = record { words = ws; cells = cells; strikes = 0; steps = 0 }
-at_load ws cells l (Unfit f) = l
-at_load ws cells l (Ran n e) = l
-at_load ws cells l (Struck b) = l
-at_load ws cells l (Word v) = l
-at_load ws cells l (Shown x) = l
-at_load ws cells l (Refused e) = l
+at_load ws cells l (Ok Done) = record { words = ws; cells = cells; strikes = 0; steps = 0 }
+at_load ws cells l (Ok (Ran n e)) = l
+at_load ws cells l (Ok (Struck b)) = l
+at_load ws cells l (Ok (Word v)) = l
+at_load ws cells l (Ok (Shown x)) = l
+at_load ws cells l (Err e) = l
 
 -- an accepted run adds the steps that it answered
 abbrev pub at_run : Since → Answer → Since
-at_run l Done = l
-at_run l (Unfit f) = l
-at_run l (Ran n e) = record { words = l.words; cells = l.cells; strikes = l.strikes; steps = l.steps + n }
-at_run l (Struck b) = l
-at_run l (Word v) = l
-at_run l (Shown x) = l
-at_run l (Refused e) = l
+at_run l (Ok Done) = l
+at_run l (Ok (Ran n e)) = record { words = l.words; cells = l.cells; strikes = l.strikes; steps = l.steps + n }
+at_run l (Ok (Struck b)) = l
+at_run l (Ok (Word v)) = l
+at_run l (Ok (Shown x)) = l
+at_run l (Err e) = l
 
 -- an accepted strike is one more
 abbrev pub at_strike : Since → Answer → Since
-at_strike l Done = l
-at_strike l (Unfit f) = l
-at_strike l (Ran n e) = l
-at_strike l (Struck b) = record { words = l.words; cells = l.cells; strikes = l.strikes + 1; steps = l.steps }
-at_strike l (Word v) = l
-at_strike l (Shown x) = l
-at_strike l (Refused e) = l
+at_strike l (Ok Done) = l
+at_strike l (Ok (Ran n e)) = l
+at_strike l (Ok (Struck b)) = record { words = l.words; cells = l.cells; strikes = l.strikes + 1; steps = l.steps }
+at_strike l (Ok (Word v)) = l
+at_strike l (Ok (Shown x)) = l
+at_strike l (Err e) = l
 
 -- one call more, made of the simulator s
 abbrev pub entered : Since → Model → Call → Answer → Since

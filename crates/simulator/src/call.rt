@@ -1,4 +1,7 @@
 // The calls of a simulator as values, and what they answer.
+ghost use Rattle.std.specs.Prelude.{◌≡◌};
+ghost use Rattle.simulator.specs.declared.call.CallFault.TheVariants.{Unfit, Refused};
+
 use crate::refusal::Refusal;
 use crate::simulator::calls::Shown;
 use checker::fault::CheckFault;
@@ -18,17 +21,41 @@ pub enum Call<'m> {
     Clear,
 }
 
-// What a call answers.
-#[derive(Clone, Copy)]
-pub enum Answer {
-    // A load, a put or a clear was accepted.
+// What an accepted call answers.
+#[derive(Clone, Copy, Debug, PartialEq, Eq)]
+pub enum Reply {
+    // A load, a put or a clear was made.
     Done,
-    // The words of a load do not pass the check: nothing was loaded, and nothing changed.
-    Unfit(CheckFault),
     Ran { taken: u32, end: End },
     Struck { bits: u32 },
     // A cell's word, or a latch's.
     Word { word: u32 },
     Shown(Shown),
+}
+
+// Why a call was not made: nothing changed.
+#[derive(Clone, Copy, Debug, PartialEq, Eq)]
+pub enum CallFault {
+    // The words of a load do not pass the check.
+    Unfit(CheckFault),
     Refused(Refusal),
+}
+
+// What a call answers.
+pub type Answer = Result<Reply, CallFault>;
+
+impl From<CheckFault> for CallFault {
+    ghost from_gives = { λ fault e. e ≡ Unfit fault };
+
+    fn from(fault: CheckFault) -> CallFault {
+        CallFault::Unfit(fault)
+    }
+}
+
+impl From<Refusal> for CallFault {
+    ghost from_gives = { λ refusal e. e ≡ Refused refusal };
+
+    fn from(refusal: Refusal) -> CallFault {
+        CallFault::Refused(refusal)
+    }
 }

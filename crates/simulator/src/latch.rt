@@ -1,8 +1,9 @@
 // One latch, read or set.
-ghost use Rattle.std.specs.Prelude.{◌≡◌, ℕ, ◌<◌, length, Some, None, MatchOption};
+ghost use Rattle.std.specs.Prelude.{◌≡◌, ℕ};
+ghost use Rattle.std.specs.List.{slice_get};
 ghost use Rattle.machine.specs.Queued.{queued};
 ghost use Rattle.machine.specs.Views.{latched};
-ghost use Rattle.simulator.specs.Places.{Low, changed, latch, struck, with_address, with_word};
+ghost use Rattle.simulator.specs.Places.{Low, latch, struck, ChangesPair};
 
 use crate::place::Place;
 use machine::latches::Latches;
@@ -18,14 +19,8 @@ pub(crate) fn read(latches: &Latches, place: Place) -> Option<u32>
         Place::CounterGreen => Some(latches.green),
         Place::CounterBlue => Some(latches.blue),
         Place::Destination => Some(latches.destination),
-        Place::PairAddress(i) => match latches.queue.get(i as usize) {
-            Some(pair) => Some(pair.address),
-            None => None,
-        },
-        Place::PairWord(i) => match latches.queue.get(i as usize) {
-            Some(pair) => Some(pair.word),
-            None => None,
-        },
+        Place::PairAddress(i) => latches.queue.get(i as usize).map(|pair| pair.address),
+        Place::PairWord(i) => latches.queue.get(i as usize).map(|pair| pair.word),
     }
 }
 
@@ -39,38 +34,31 @@ pub(crate) fn write(latches: &mut Latches, place: Place, value: u32)
         Place::CounterGreen => latches.green = value,
         Place::CounterBlue => latches.blue = value,
         Place::Destination => latches.destination = value,
-        Place::PairAddress(i) => latches.queue = with_address(latches.queue, i as usize, value),
-        Place::PairWord(i) => latches.queue = with_word(latches.queue, i as usize, value),
+        Place::PairAddress(i) => change(
+            &mut latches.queue,
+            i as usize,
+            |pair| Pair {
+                address: value,
+                ..pair
+            },
+        ),
+        Place::PairWord(i) => change(
+            &mut latches.queue,
+            i as usize,
+            |pair| Pair {
+                word: value,
+                ..pair
+            },
+        ),
     }
 }
 
-// The queue with another address, or another word, in pair `at`, if there is such a pair.
-fn with_address(mut queue: Queue, at: usize, address: u32) -> Queue
-    ensures { queued result ≡ changed (with_address address) at (queued queue) }
+// Changes pair `at`, if there is such a pair.
+fn change<F: FnOnce(Pair) -> Pair>(queue: &mut Queue, at: usize, to: F)
+    requires { F.IsAlwaysCallable to }
+    ensures { ChangesPair (F.post to) (slice_get (queued queue.old) at) at (queued queue.old) (queued queue.new) }
 {
     if let Some(pair) = queue.get(at) {
-        queue.set(
-            at,
-            Pair {
-                address,
-                word: pair.word,
-            },
-        );
+        queue.set(at, to(pair));
     }
-    queue
-}
-
-fn with_word(mut queue: Queue, at: usize, word: u32) -> Queue
-    ensures { queued result ≡ changed (with_word word) at (queued queue) }
-{
-    if let Some(pair) = queue.get(at) {
-        queue.set(
-            at,
-            Pair {
-                address: pair.address,
-                word,
-            },
-        );
-    }
-    queue
 }

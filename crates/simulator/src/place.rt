@@ -1,8 +1,11 @@
 // The places that a strike can hit: each is one latch.
-ghost use Rattle.std.specs.Prelude.{◌≡◌, IfSome};
+ghost use Rattle.std.specs.Prelude.{◌≡◌, Some, None, MatchResult};
 ghost use Rattle.simulator.specs.Places.{Low, place_of};
+ghost use Rattle.simulator.specs.declared.refusal.Refusal.TheVariants as refusal;
 
-#[derive(Clone, Copy)]
+use crate::refusal::Refusal;
+
+#[derive(Clone, Copy, Debug, PartialEq, Eq)]
 pub enum Place {
     Register(u8),
     CounterGreen,
@@ -14,20 +17,21 @@ pub enum Place {
     PairWord(u8),
 }
 
-impl Place {
-    // The place with this number; None where there is none.
-    pub fn from_number(number: u32) -> Option<Place>
-        ensures value { result ≡ place_of number }
-        ensures low { IfSome result (λ p. Low p) }
-    {
+// The place with this number.
+impl TryFrom<u32> for Place {
+    type Error = Refusal;
+
+    ghost try_from_gives = { λ number r. MatchResult r (λ p. (place_of number ≡ Some p) × Low p) (λ e. (place_of number ≡ None) × (e ≡ refusal.NoSuchPlace)) };
+
+    fn try_from(number: u32) -> Result<Place, Refusal> {
         match number {
-            0..=31 => Some(Place::Register(number as u8)),
-            32 => Some(Place::CounterGreen),
-            33 => Some(Place::CounterBlue),
-            34 => Some(Place::Destination),
-            35..=50 => Some(Place::PairAddress((number - 35) as u8)),
-            51..=66 => Some(Place::PairWord((number - 51) as u8)),
-            _ => None,
+            0..=31 => Ok(Place::Register(number as u8)),
+            32 => Ok(Place::CounterGreen),
+            33 => Ok(Place::CounterBlue),
+            34 => Ok(Place::Destination),
+            35..=50 => Ok(Place::PairAddress((number - 35) as u8)),
+            51..=66 => Ok(Place::PairWord((number - 51) as u8)),
+            _ => Err(Refusal::NoSuchPlace),
         }
     }
 }

@@ -1,6 +1,9 @@
 // Why a call is refused.
 ghost use Rattle.std.specs.Prelude.{◌≡◌};
 ghost use Rattle.simulator.specs.Refusals.{number as number_of};
+ghost use Rattle.simulator.specs.declared.refusal.Refusal.TheVariants as refusal;
+
+use memory::NotWritable;
 
 #[derive(Clone, Copy, Debug, PartialEq, Eq)]
 pub enum Refusal {
@@ -20,6 +23,7 @@ pub enum Refusal {
 
 impl Refusal {
     // The number by which hosts know the refusal.
+    // Stays (1): a rule of the project: the format has numbers for refusals.
     pub fn number(self) -> u32
         ensures { result ≡ number_of self }
     {
@@ -31,5 +35,13 @@ impl Refusal {
             Refusal::NoSuchPlace => 14,
             Refusal::NoSuchCell => 15,
         }
+    }
+}
+
+impl From<NotWritable> for Refusal {
+    ghost from_gives = { λ _ r. r ≡ refusal.NoSuchCell };
+
+    fn from(_refused: NotWritable) -> Refusal {
+        Refusal::NoSuchCell
     }
 }

@@ -1,5 +1,5 @@
 -- What the proofs use of a module that passes the check, and that words which pass are such a module.
-use Rattle.std.proofs.Common.{◌≡◌, ℕ, ◌+◌, ◌*◌, ◌%◌, ◌<◌, ◌≤◌, Bool, true, false, cond, eqb, ◌⊎◌, List, length, get_or, sym, ap, ◌∙◌, subst, inl, inr, arith}
+use Rattle.std.proofs.Common.{◌≡◌, ℕ, ◌+◌, ◌*◌, ◌%◌, ◌<◌, ◌≤◌, Bool, true, false, cond, eqb, ◌⊎◌, List, length, get_or, sym, ap, ◌∙◌, subst, inl, inr, arith, None}
 use mathlib.Core.Path.{subst⁻¹}
 use Rattle.std.proofs.lemmas.List.FromFn.{length-map-range_with_len, get_or-map-range_with_len}
 use Rattle.std.proofs.lemmas.List.{get_or_past}
@@ -12,7 +12,7 @@ use Rattle.isa.specs.declared.kinds.Kind.TheVariants.{Move, Copy, Arith, Load, S
 use Rattle.isa.specs.Words.{second_word, operation, field_a, field_b, field_c, uses, named, kind_by, kind_of}
 use Rattle.isa.specs.Layout.{word, kind_at, start_at, card_byte, block_fits, slot_fits}
 use Rattle.rules.specs.Limits.{Limits}
-use Rattle.rules.specs.Cards.{free, Block, Card, start, entry, starts?}
+use Rattle.rules.specs.Cards.{Block, Card, start, entry, starts?}
 use Rattle.rules.specs.Module.{Module, size, instr, Keeps}
 use Rattle.rules.specs.Words.{slot_of, card_of, block_of, module_of, Passes}
 use Rattle.rules.proofs.Layouts.{every-at, few, start_below, start_first}
@@ -26,7 +26,7 @@ pub record Passed (L : Limits) (m : Module) : Type 0 where
   pub some : 0 < size m
   pub opening : Card
   pub opens : entry m.blocks 0 ≡ start opening
-  pub all_free : (r : ℕ) → get_or opening r free ≡ free
+  pub all_free : (r : ℕ) → get_or opening r None ≡ None
   pub below : (p : ℕ) → starts? (entry m.blocks p) ≡ true → p < size m
   pub words : (p : ℕ) → p < size m → Word (second_word (instr m p))
   pub kept : Keeps L m
@@ -86,17 +86,17 @@ module _ (L : Limits) (ws : List ℕ) (wide : AreWords ws) (H : Passes L ws) whe
       one (inr l) = absurd (true≢false (sym h ∙ ap starts? (entry-inside (module_of ws).blocks p (block_of ws 0 0) (none l))))
 
   -- the first card's bytes are 0
-  byte_free : (r : ℕ) → r < 32 → slot_of (card_byte ws (word ws 0) 0 r) ≡ free
+  byte_free : (r : ℕ) → r < 32 → slot_of (card_byte ws (word ws 0) 0 r) ≡ None
   byte_free r l =
       let f = (and_parts _ _ (every-at (word ws 1) 0 (block_fits ws (word ws 0)) H.1 blocks)).1 in
       ap slot_of (eqb-true _ _ (every-at 32 r (slot_fits ws (word ws 0) 0) f l))
 
-  card_free : (r : ℕ) → get_or (card_of ws (word ws 0) 0) r free ≡ free
+  card_free : (r : ℕ) → get_or (card_of ws (word ws 0) 0) r None ≡ None
   card_free r = one (cases_lt r 32)
     where
-      one : (r < 32) ⊎ (32 ≤ r) → get_or (card_of ws (word ws 0) 0) r free ≡ free
-      one (inl l) = get_or-map-range_with_len (λ k. slot_of (card_byte ws (word ws 0) 0 k)) 0 32 r r free l (omega arith) ∙ byte_free r l
-      one (inr l) = get_or_past (card_of ws (word ws 0) 0) r free l
+      one : (r < 32) ⊎ (32 ≤ r) → get_or (card_of ws (word ws 0) 0) r None ≡ None
+      one (inl l) = get_or-map-range_with_len (λ k. slot_of (card_byte ws (word ws 0) 0 k)) 0 32 r r None l (omega arith) ∙ byte_free r l
+      one (inr l) = get_or_past (card_of ws (word ws 0) 0) r None l
 
   pub passes_passed : Passed L (module_of ws)
   passes_passed =

@@ -1,5 +1,5 @@
 -- The run without strikes: what the check knows stays true, and no step reports.
-use Rattle.std.proofs.Common.{◌≡◌, ℕ, zero, suc, ◌+◌, ◌<◌, ◌≤◌, Bool, true, false, cond, not, eqb, ltb, ◌≢◌, [], ◌∷◌, ◌++◌, length, get_or, sym, refl, ap, ◌∙◌, subst, ap₂, le_refl, arith}
+use Rattle.std.proofs.Common.{◌≡◌, ℕ, zero, suc, ◌+◌, ◌<◌, ◌≤◌, Bool, true, false, cond, not, eqb, ltb, ◌≢◌, [], ◌∷◌, ◌++◌, length, get_or, sym, refl, ap, ◌∙◌, subst, ap₂, le_refl, arith, Some, None}
 use mathlib.Core.Path.{subst⁻¹}
 use Rattle.std.proofs.lemmas.Bool.{and_from, eq-eqb, ne_eqb, lt-ltb, not_from_false}
 use Rattle.memory.specs.Cells.{replaced}
@@ -12,14 +12,15 @@ use Rattle.machine.specs.Machine.{State, Outcome, stop, go, need, reg, with_regs
 use Rattle.rules.specs.Limits.{Limits}
 use Rattle.rules.specs.Expressions.{Arithmetic, Expr, load}
 use Rattle.rules.specs.Notes.{Colour, green, blue, Register, Kind, mov, cpy, arith as arith-op, ld, st, jmp, bz, halt, upd, Note, nothing, note, Notes, Dest, clear, jump, branch, Static, note_of, expr_of, target_of, set_note, set_dest, pushed, others, popped, combine, next}
-use Rattle.rules.specs.Cards.{Slot, free, slot, Card, card_note, fresh, Entry, inside, start, entry, starts?}
+use Rattle.rules.specs.Cards.{Slot, Card, card_note, fresh, Entry, inside, start, entry, starts?}
 use Rattle.rules.specs.Module.{Module, size, instr, enter, static}
 use Rattle.soundness.specs.Strikes.{Word}
 use Rattle.soundness.proofs.Passed.{Passed}
 use Rattle.rules.proofs.Relations.{Coloured, Sub, Oldest, Has, HasNumber, Meets, Met, Enters, Arrives, Passable, Falls, Rule, rule_is}
 use Rattle.soundness.proofs.Outcomes.{Fine, fine-need, fine-cond}
 use Rattle.soundness.proofs.Words.{Words, overlay-word, seen}
-use Rattle.soundness.proofs.Values.{Context, val, num_val, var_val, load_val, same_val, is_val, mk_val, Upto, upto_same, Holds, NoteHolds, Matched, Chain, DestHolds, Means, upd_same, upd_other, chain_end, chain_head, chain_le, chain_push, chain_pop, note_more, matched_push, dest_more, matched_length, matched_none, Popped, matched_pop}
+use Rattle.rules.proofs.Updates.{upd_same, upd_other}
+use Rattle.soundness.proofs.Values.{Context, val, num_val, var_val, load_val, same_val, is_val, mk_val, Upto, upto_same, Holds, NoteHolds, Matched, Chain, DestHolds, Means, chain_end, chain_head, chain_le, chain_push, chain_pop, note_more, matched_push, dest_more, matched_length, matched_none, Popped, matched_pop}
 
 -- both counters stand at a place, and what the check knows there is true
 pub record Typed (m : Module) (s : State) : Type 0 where
@@ -40,16 +41,16 @@ not_zero n h = not_from_false (zero? n) (ne_eqb n 0 h)
 -- a card's entry that is met is true of the register
 slot_holds : (C : Context) (k : ℕ) (c : ℕ → ℕ → ℕ) (θ : ℕ → Expr) (x : Slot) (n : Note) (v : ℕ) → Word v → Meets θ x n → NoteHolds C k n v →
     NoteHolds (record { variable = λ y. val C (θ y); cells = c }) 0 (card_note x) v
-slot_holds C k c θ free n v q h H = tt
-slot_holds C k c θ (slot t y) nothing v q h H = absurd h
-slot_holds C k c θ (slot t y) (note d e) v q h H =
+slot_holds C k c θ None n v q h H = tt
+slot_holds C k c θ (Some (t, y)) nothing v q h H = absurd h
+slot_holds C k c θ (Some (t, y)) (note d e) v q h H =
     let p : val C (θ y.number) ≡ v = sym (same_val C e (θ y.number) h.1) ∙ H C (upto_same k C) in
     λ D u. let r : D.variable y.number ≡ v = ap (λ f. f y.number) u.0 ∙ p in var_val D y.number (subst⁻¹ Word r q) ∙ r
 
 slot_sub : (θ : ℕ → Expr) (x : Slot) (n : Note) → Meets θ x n → (t : Colour) → Coloured t (card_note x) → Coloured t n
-slot_sub θ free n h t p = absurd p
-slot_sub θ (slot c y) nothing h t p = absurd h
-slot_sub θ (slot c y) (note d e) h t p = sym h.0 ∙ p
+slot_sub θ None n h t p = absurd p
+slot_sub θ (Some (c, y)) nothing h t p = absurd h
+slot_sub θ (Some (c, y)) (note d e) h t p = sym h.0 ∙ p
 
 -- the notes S are true of the state s
 module _ (S : Static) (s : State) (W : Means S s) where
@@ -66,14 +67,14 @@ module _ (S : Static) (s : State) (W : Means S s) where
       let C : Context = record { variable = λ y. val W.context (H.0 y); cells = c } in
       record {
         context = C;
-        noted = λ r. slot_holds W.context S.k_g c H.0 (get_or K r free) (S.notes r) (s.regs r) (Z.regs r) (H.1 r) (W.noted r);
+        noted = λ r. slot_holds W.context S.k_g c H.0 (get_or K r None) (S.notes r) (s.regs r) (Z.regs r) (H.1 r) (W.noted r);
         queued = subst⁻¹ (Matched C 0 []) (queue_none h) tt;
         chain = subst⁻¹ (λ q. Chain C 0 s.cells q 0) (queue_none h) (refl, refl);
         aimed = e;
       }
 
   met_sub : (K : Card) (H : Met K S.notes) → Sub (fresh K).notes S.notes
-  met_sub K H t r = slot_sub H.0 (get_or K r free) (S.notes r) (H.1 r) t
+  met_sub K H t r = slot_sub H.0 (get_or K r None) (S.notes r) (H.1 r) t
 
   -- the next place
   pass_means : (e : Entry) → Words s → Passable e S → (Means (enter e S) s) × Sub (enter e S).notes S.notes

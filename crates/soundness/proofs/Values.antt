@@ -1,13 +1,13 @@
 -- Values of expressions, and what it is for the check's notes to be true of a state.
-use Rattle.std.proofs.Common.{◌≡◌, ℕ, suc, ◌+◌, ◌≤◌, true, cond, eqb, ◌≢◌, List, [], ◌∷◌, ◌++◌, length, sym, refl, ap, ◌∙◌, subst, ap₂, arith}
-use Rattle.std.proofs.lemmas.Bool.{false≢true, eq-eqb, ne_eqb, cond-true, cond-false}
+use Rattle.std.proofs.Common.{◌≡◌, ℕ, suc, ◌+◌, ◌≤◌, true, cond, ◌≢◌, List, [], ◌∷◌, ◌++◌, length, sym, refl, ap, ◌∙◌, subst, ap₂, arith}
+use Rattle.std.proofs.lemmas.Bool.{false≢true}
 use Rattle.memory.specs.Cells.{replaced}
 use Rattle.isa.specs.Words.{alu}
 use Rattle.machine.specs.declared.queue.Pair.{Pair}
 use Rattle.machine.specs.Pairs.{first, rest, some?, overlay}
 use Rattle.machine.specs.Machine.{State, zero?}
 use Rattle.rules.specs.Expressions.{Arithmetic, Expr, num, var, op, load, Numeral, none, is, num_of, or_zero, fold, mk}
-use Rattle.rules.specs.Notes.{upd, Note, nothing, note, Dest, clear, jump, branch, Pending, Static}
+use Rattle.rules.specs.Notes.{Note, nothing, note, Dest, clear, jump, branch, Pending, Static}
 use Rattle.rules.proofs.Sameness.{same_eq}
 use Rattle.soundness.specs.Strikes.{Word}
 use Rattle.rules.proofs.Relations.{Same}
@@ -100,12 +100,6 @@ pub record Means (S : Static) (s : State) : Type 0 where
   pub queued : Matched context S.k_g S.pending s.queue
   pub chain : Chain context S.k_b s.cells s.queue S.k_g
   pub aimed : DestHolds context S.k_g S.dest s.destination
-
-pub upd_same : {A : Type 0} (f : ℕ → A) (a : ℕ) (v : A) → upd f a v a ≡ v
-upd_same f a v = cond-true (eqb a a) v (f a) (eq-eqb a a refl)
-
-pub upd_other : {A : Type 0} (f : ℕ → A) (a : ℕ) (v : A) (r : ℕ) → r ≢ a → upd f a v r ≡ f r
-upd_other f a v r n = cond-false (eqb r a) v (f r) (ne_eqb r a n)
 
 pub chain_end : (C : Context) (k : ℕ) (c : ℕ → ℕ) (q : List Pair) (n : ℕ) → Chain C k c q n → C.cells n ≡ overlay q c
 chain_end C k c [] n h = ap C.cells (sym h.1) ∙ h.0

@@ -6,12 +6,7 @@ ghost use Rattle.rules.specs.Limits.{in_force};
 ghost use Rattle.soundness.specs.Finding.{Finding};
 ghost use Rattle.soundness.specs.Worked.{WorkedRuns};
 
-// The stores that green may be ahead of blue, by the limits in force.
-fn queue_limit() -> u8
-    ensures { result ≡ in_force.queue }
-{
-    16
-}
+use isa::limits::QUEUE;
 
 // Carries the theorem on strikes. Answers how many pairs the check may let pend for it: the machine's queue must have
 // room for them, or else a run that nothing struck would end in a report.
@@ -19,19 +14,12 @@ pub fn strikes_are_found() -> u8
     ensures limit { result ≡ in_force.queue }
     ensures found { Finding result }
 {
-    queue_limit()
-}
-
-// The steps of the worked module.
-fn steps_taken() -> u8
-    ensures { result ≡ 7 }
-{
-    7
+    QUEUE as u8
 }
 
 // Carries the worked examples of runs, unstruck and struck. Answers how many steps the worked module takes.
 pub fn worked_runs() -> u8
     ensures { WorkedRuns result }
 {
-    steps_taken()
+    7
 }

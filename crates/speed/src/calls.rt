@@ -1,7 +1,6 @@
 // The machine, the reader and the compiler.
 use anyhow::anyhow;
 use checker::check::Checker;
-use checker::pass::Pass;
 use compiler::tables::Compiler;
 use isa::limits::MODULE_WORDS;
 use memory::{ArrayMemory, Memory};
@@ -18,7 +17,12 @@ const CALLS: u32 = 100;
 const CELLS: usize = 4096;
 
 // Prints what was timed, how often it was done, and for how long.
-pub fn print_time(rt: &HostRuntime, what: &str, count: u32, start: Instant) -> anyhow::Result<()> {
+pub fn print_time(
+    rt: &HostRuntime,
+    what: &str,
+    count: usize,
+    start: Instant,
+) -> anyhow::Result<()> {
     let nanos = start.elapsed(rt)?.as_nanos();
     println!(rt; "{what} {count} {nanos}")?;
     Ok(())
@@ -34,8 +38,7 @@ pub fn time_machine(rt: &HostRuntime, text: &[u8]) -> anyhow::Result<()> {
     };
     out.truncate(count);
     let mut checker = Checker::new(heap)?;
-    let mut pass = Pass::new();
-    let Ok(()) = checker.check(&mut pass, out.as_slice()) else {
+    let Ok(pass) = checker.check(out.as_slice()) else {
         return Err(anyhow!("the module does not pass"));
     };
     let mut cells = vec![in heap; 1u32; CELLS]?;
@@ -52,7 +55,7 @@ pub fn time_machine(rt: &HostRuntime, text: &[u8]) -> anyhow::Result<()> {
     for _ in 0..CALLS {
         let _ = simulator.run(AT_ONCE);
     }
-    print_time(rt, "machine", simulator.show().steps, start)?;
+    print_time(rt, "machine", simulator.show().steps as usize, start)?;
     let shown = simulator.show();
     println!(rt; "end {} stores {}", shown.end.number(), shown.stores)?;
     Ok(())
@@ -61,12 +64,7 @@ pub fn time_machine(rt: &HostRuntime, text: &[u8]) -> anyhow::Result<()> {
 pub fn time_read(rt: &HostRuntime, text: &[u8], times: u32) -> anyhow::Result<()> {
     let mut reader = Reader::new(rt.alloc())?;
     let start = Instant::now(rt)?;
-    let mut read = 0u32;
-    for _ in 0..times {
-        if reader.read(text).is_ok() {
-            read = read.saturating_add(1);
-        }
-    }
+    let read = (0..times).filter(|_| reader.read(text).is_ok()).count();
     print_time(rt, "read", read, start)
 }
 
@@ -75,11 +73,8 @@ pub fn time_compile(rt: &HostRuntime, text: &[u8], times: u32) -> anyhow::Result
     let mut compiler = Compiler::new(heap)?;
     let mut out = vec![in heap; 0u32; MODULE_WORDS]?;
     let start = Instant::now(rt)?;
-    let mut compiled = 0u32;
-    for _ in 0..times {
-        if compiler.compile(text, out.as_mut_slice()).is_ok() {
-            compiled = compiled.saturating_add(1);
-        }
-    }
+    let compiled = (0..times)
+        .filter(|_| compiler.compile(text, out.as_mut_slice()).is_ok())
+        .count();
     print_time(rt, "compile", compiled, start)
 }

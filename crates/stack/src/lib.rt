@@ -24,10 +24,12 @@ impl<'a, T: Copy> Stack<'a, T> {
     }
 
     // Adds an element, or hands it back where every slot is in use.
+    #[tactic(auto, using(std::proofs::lemmas::List::take_more_set))]
     pub fn push(&mut self, x: T) -> Result<(), T>
         ensures pushed { Pushed self.old self.new x result }
         ensures room { room self.new ≡ room self.old }
     {
+        // Stays (4): tried `get_mut`, the proof didn't close: once a slot was lent, nothing is known of the slots.
         if self.len >= self.slots.len() {
             return Err(x);
         }
@@ -37,14 +39,12 @@ impl<'a, T: Copy> Stack<'a, T> {
     }
 
     // Takes the newest element.
+    #[tactic(auto, using(std::proofs::lemmas::List::take_more))]
     pub fn pop(&mut self) -> Option<T>
         ensures popped { Popped self.old self.new result }
         ensures room { room self.new ≡ room self.old }
     {
-        if self.len == 0 {
-            return None;
-        }
-        self.len -= 1;
+        self.len = self.len.checked_sub(1)?;
         Some(self.slots[self.len])
     }
 }

@@ -1,5 +1,5 @@
 -- What the lines of a script do.
-use Rattle.std.specs.Prelude.{ℕ, ◌-◌, cond, ◌&&◌, List, [], ◌∷◌, ◌++◌, length, take, drop, Ok, Err, vec_items, Result, Vec, nat_le}
+use Rattle.std.specs.Prelude.{ℕ, List, [], ◌∷◌, ◌++◌, Ok, Err, vec_items, Result, Vec}
 use Rattle.script.specs.declared.command.Command.{Command}
 use Rattle.script.specs.declared.command.Command.TheVariants as command
 use Rattle.simulator.specs.declared.call.Call.{Call}
@@ -25,10 +25,6 @@ seen (call.Probe p) = doing (command.Probe p)
 seen call.Show = doing command.Show
 seen call.Clear = doing command.Clear
 
--- the words from one to another
-abbrev pub part : ℕ → ℕ → List ℕ → List ℕ
-part from to ws = cond (nat_le from to && nat_le to (length ws)) (take (to - from) (drop from ws)) []
-
 -- commands that are calls by themselves
 abbrev pub done : Command → List Act
 done command.Blank = []
@@ -45,24 +41,28 @@ done (command.Probe p) = doing (command.Probe p) ∷ []
 done command.Show = doing command.Show ∷ []
 done command.Clear = doing command.Clear ∷ []
 
--- the acts of a line, and of lines in their order, over the words that passed
+-- the acts of a line; loads load these words
 abbrev pub act : List ℕ → Entry → List Act
 act ws entry.Window = []
-act ws (entry.Passed n) = []
+act ws (entry.Passed v) = []
 act ws (entry.Faulty f) = []
-act ws (entry.Load from to) = loading (part from to ws) ∷ []
+act ws entry.Load = loading ws ∷ []
 act ws (entry.Call c) = done c
 
+-- the words that loads load behind a line: those of a plan or a module that passed, else the former ones
+abbrev pub last_words : List ℕ → Entry → List ℕ
+last_words ws entry.Window = ws
+last_words ws (entry.Passed v) = vec_items v
+last_words ws (entry.Faulty f) = ws
+last_words ws entry.Load = ws
+last_words ws (entry.Call c) = ws
+
+-- the acts of lines in their order
 abbrev pub acts : List ℕ → List Entry → List Act
 acts ws [] = []
-acts ws (e ∷ es) = act ws e ++ acts ws es
+acts ws (e ∷ es) = act ws e ++ acts (last_words ws e) es
 
--- the words that a verdict adds to those that passed, and where the last ones begin behind n words; the former ones
--- stay the last where a plan or a module did not pass
-abbrev pub words_in : Result (Vec ℕ Global) Fault → List ℕ
-words_in (Ok v) = vec_items v
-words_in (Err f) = []
-
-abbrev pub last_from : Result (Vec ℕ Global) Fault → ℕ → ℕ → ℕ
-last_from (Ok v) n former = n
-last_from (Err f) n former = former
+-- the line of a verdict on a plan or a module
+abbrev pub verdict : Result (Vec ℕ Global) Fault → Entry
+verdict (Ok v) = entry.Passed v
+verdict (Err f) = entry.Faulty f

@@ -1,7 +1,8 @@
 // The answers, in the script's order.
 use crate::calls::Entry;
-use crate::judge::{Fault, layer_name};
-use simulator::call::Answer;
+use crate::judge::Fault;
+use memory::window::BadWindow;
+use simulator::call::{Answer, CallFault, Reply};
 use std::io;
 
 fn print_fault(rt: &HostRuntime, fault: Fault) -> io::Result<()> {
@@ -10,33 +11,39 @@ fn print_fault(rt: &HostRuntime, fault: Fault) -> io::Result<()> {
             "refused {} {} {}",
             fault.number(),
             fault.place(),
-            layer_name(fault.layer())
+            fault.layer()
         ),
         Fault::Module(fault) => println!(rt; "refused {} {}", fault.number(), fault.place()),
     }
 }
 
-fn print_answer(rt: &HostRuntime, answer: Answer) -> io::Result<()> {
-    match answer {
-        Answer::Done => println!(rt; "ok"),
-        Answer::Unfit(fault) => print_fault(rt, Fault::Module(fault)),
-        Answer::Ran { taken, end } => println!(rt; "ok {taken} {}", end.number()),
-        Answer::Struck { bits } => println!(rt; "ok {bits}"),
-        Answer::Word { word } => println!(rt; "ok {word}"),
-        Answer::Shown(shown) => println!(rt;
+fn print_reply(rt: &HostRuntime, reply: Reply) -> io::Result<()> {
+    match reply {
+        Reply::Done => println!(rt; "ok"),
+        Reply::Ran { taken, end } => println!(rt; "ok {taken} {}", end.number()),
+        Reply::Struck { bits } => println!(rt; "ok {bits}"),
+        Reply::Word { word } => println!(rt; "ok {word}"),
+        Reply::Shown(shown) => println!(rt;
             "ok {} {} {}",
             shown.end.number(),
             shown.steps,
             shown.stores
         ),
-        Answer::Refused(refusal) => println!(rt; "refused {}", refusal.number()),
     }
 }
 
-fn print_window(rt: &HostRuntime, refused: Option<u32>) -> io::Result<()> {
-    match refused {
-        None => println!(rt; "ok"),
-        Some(number) => println!(rt; "refused {number}"),
+fn print_answer(rt: &HostRuntime, answer: Answer) -> io::Result<()> {
+    match answer {
+        Ok(reply) => print_reply(rt, reply),
+        Err(CallFault::Unfit(fault)) => print_fault(rt, Fault::Module(fault)),
+        Err(CallFault::Refused(refusal)) => println!(rt; "refused {}", refusal.number()),
+    }
+}
+
+fn print_window(rt: &HostRuntime, window: &Result<(), BadWindow<()>>) -> io::Result<()> {
+    match window {
+        Ok(()) => println!(rt; "ok"),
+        Err(refused) => println!(rt; "refused {}", refused.number()),
     }
 }
 
@@ -44,19 +51,18 @@ fn print_window(rt: &HostRuntime, refused: Option<u32>) -> io::Result<()> {
 pub fn print_answers(
     rt: &HostRuntime,
     entries: &[Entry],
-    window: Option<u32>,
+    window: &Result<(), BadWindow<()>>,
     answers: &[Answer],
 ) -> io::Result<()> {
-    let mut next = 0usize;
+    let mut answers = answers.iter();
     for entry in entries {
-        match *entry {
+        match entry {
             Entry::Window => print_window(rt, window)?,
-            Entry::Passed { words } => println!(rt; "ok {words}")?,
-            Entry::Faulty(fault) => print_fault(rt, fault)?,
-            Entry::Load { from: _, to: _ } | Entry::Call(_) => {
-                if next < answers.len() {
-                    print_answer(rt, answers[next])?;
-                    next += 1;
+            Entry::Passed(words) => println!(rt; "ok {}", words.len())?,
+            Entry::Faulty(fault) => print_fault(rt, *fault)?,
+            Entry::Load | Entry::Call(_) => {
+                if let Some(answer) = answers.next() {
+                    print_answer(rt, *answer)?;
                 }
             }
         }

@@ -1,41 +1,31 @@
 // The calls that a script makes.
 ghost use Rattle.std.specs.Prelude.{◌≡◌, map, IfOk};
 ghost use Rattle.std.specs.Option.{option_map, option_to_list};
-ghost use Rattle.talft.specs.Acts.{part as part_of, seen, act, acts};
+ghost use Rattle.talft.specs.Acts.{seen, act, acts, last_words};
 
 use crate::judge::Fault;
 use script::command::Command;
 use simulator::call::Call;
 use std::alloc::{AllocError, Global};
 
-// A line that is answered. A load names the words that it loads, by their place among those that passed; the other
-// calls are commands as they stand.
-#[derive(Clone, Copy)]
+// A line that is answered. A plan or a module that passed stands with its words, and a load loads those that passed
+// last; the other calls are commands as they stand.
+#[derive(Drop)]
 pub enum Entry {
     Window,
-    Passed { words: usize },
+    Passed(Vec<u32>),
     Faulty(Fault),
-    Load { from: usize, to: usize },
+    Load,
     Call(Command),
 }
 
-// The words from one to another; none, if they do not stand there.
-fn part(words: &[u32], from: usize, to: usize) -> &[u32]
-    ensures { result.now ≡ part_of from to words.now }
+// The call that a line makes, if it makes one; loads load these words.
+// Stays (4): no plainer: a command that is no call has no call to turn into, and neither crate knows the other.
+fn call_of<'m>(entry: &Entry, last: &'m [u32]) -> Option<Call<'m>>
+    ensures { option_to_list (option_map seen result) ≡ act last.now entry.now }
 {
-    if from <= to && to <= words.len() {
-        &words[from..to]
-    } else {
-        &words[0..0]
-    }
-}
-
-// The call that a line makes, if it makes one.
-fn call_of<'m>(entry: Entry, passed: &'m [u32]) -> Option<Call<'m>>
-    ensures { option_to_list (option_map seen result) ≡ act passed.now entry }
-{
-    match entry {
-        Entry::Load { from, to } => Some(Call::Load(part(passed, from, to))),
+    match *entry {
+        Entry::Load => Some(Call::Load(last)),
         Entry::Call(Command::Put { address, word }) => Some(Call::Put { address, word }),
         Entry::Call(Command::Run { steps }) => Some(Call::Run { steps }),
         Entry::Call(Command::Strike { place, value }) => Some(Call::Strike { place, value }),
@@ -47,19 +37,31 @@ fn call_of<'m>(entry: Entry, passed: &'m [u32]) -> Option<Call<'m>>
     }
 }
 
-// The calls of a script, in their order.
+// The words that loads load behind a line.
+fn words_behind<'m>(entry: &'m Entry, last: &'m [u32]) -> &'m [u32]
+    ensures { result.now ≡ last_words last.now entry.now }
+{
+    match entry {
+        Entry::Passed(words) => words.as_slice(),
+        _ => last,
+    }
+}
+
+// The calls of a script, in their order; loads before any plan or module that passed load these words.
 pub fn calls_of<'m>(
     heap: Global,
-    entries: &[Entry],
-    passed: &'m [u32],
+    first: &'m [u32],
+    entries: &'m [Entry],
 ) -> Result<Vec<Call<'m>>, AllocError>
-    ensures { IfOk result (λ v. map seen v.items ≡ acts passed.now entries.now) }
+    ensures { IfOk result (λ v. map seen v.items ≡ acts first.now entries.now) }
 {
     let mut calls = Vec::new(heap);
+    let mut last = first;
     for entry in entries {
-        if let Some(call) = call_of(*entry, passed) {
+        if let Some(call) = call_of(entry, last) {
             calls.push(call)?;
         }
+        last = words_behind(entry, last);
     }
     Ok(calls)
 }

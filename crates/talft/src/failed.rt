@@ -1,30 +1,15 @@
 // Why the tool ends with an error.
-use std::alloc::{AllocError, AllocFailed};
+use std::alloc::AllocError;
 use std::io;
+use thiserror::Error;
 
-#[derive(Clone, Copy)]
+#[derive(Debug, Drop, Error)]
 pub enum Failed {
-    // Standard error has been told.
+    #[error("standard error has been told")]
     Told,
-    Memory,
+    #[error("not enough memory")]
+    Memory(#[from(alloc)] AllocError),
     // Standard input or output, or the call's words.
-    Channel,
-}
-
-impl From<AllocError> for Failed {
-    fn from(_e: AllocError) -> Failed {
-        Failed::Memory
-    }
-}
-
-impl<T: Drop> From<AllocFailed<T>> for Failed {
-    fn from(_e: AllocFailed<T>) -> Failed {
-        Failed::Memory
-    }
-}
-
-impl From<io::Error> for Failed {
-    fn from(_e: io::Error) -> Failed {
-        Failed::Channel
-    }
+    #[error("cannot read or write")]
+    Channel(#[from] io::Error),
 }

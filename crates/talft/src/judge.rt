@@ -1,11 +1,9 @@
 // The compiler and the check, with room made once.
 use checker::check::Checker;
 use checker::fault::CheckFault;
-use checker::pass::Pass;
 use compiler::fault::CompileFault;
 use compiler::tables::Compiler;
 use isa::limits::MODULE_WORDS;
-use plan::fault::Layer;
 use std::alloc::{AllocError, Global};
 
 #[derive(Drop)]
@@ -21,14 +19,6 @@ pub enum Fault {
     Module(CheckFault),
 }
 
-pub fn layer_name(layer: Layer) -> &'static str {
-    match layer {
-        Layer::Marks => "marks",
-        Layer::Reader => "reader",
-        Layer::Builder => "builder",
-    }
-}
-
 impl Tools {
     pub fn new(heap: Global) -> Result<Tools, AllocError> {
         let compiler = Compiler::new(heap)?;
@@ -38,24 +28,18 @@ impl Tools {
 
     // The check's verdict on words.
     pub fn check(&mut self, words: &[u32]) -> Result<(), Fault> {
-        let mut pass = Pass::new();
-        match self.checker.check(&mut pass, words) {
-            Ok(()) => Ok(()),
-            Err(fault) => Err(Fault::Module(fault)),
-        }
+        self.checker.check(words).map_err(Fault::Module)?;
+        Ok(())
     }
 
     // Compiles a text, and has its words checked; they stand at the front of the output.
+    // Stays (6): a rule of the project: the compiler fills words that its caller owns.
     fn translate(&mut self, text: &[u8], out: &mut [u32]) -> Result<usize, Fault> {
-        match self.compiler.compile(text, out) {
-            Ok(count) => {
-                let words: &[u32] = out;
-                let count = count.min(words.len());
-                self.check(&words[0..count])?;
-                Ok(count)
-            }
-            Err(fault) => Err(Fault::Plan(fault)),
-        }
+        let count = self.compiler.compile(text, out).map_err(Fault::Plan)?;
+        let words: &[u32] = out;
+        let count = count.min(words.len());
+        self.check(&words[..count])?;
+        Ok(count)
     }
 
     // The words of a plan's module, which passed the check.
@@ -65,12 +49,10 @@ impl Tools {
         text: &[u8],
     ) -> Result<Result<Vec<u32>, Fault>, AllocError> {
         let mut words = vec![in heap; 0u32; MODULE_WORDS]?;
-        match self.translate(text, words.as_mut_slice()) {
-            Ok(count) => {
-                words.truncate(count);
-                Ok(Ok(words))
-            }
-            Err(fault) => Ok(Err(fault)),
-        }
+        let judged = self.translate(text, words.as_mut_slice());
+        Ok(judged.map(|count| {
+            words.truncate(count);
+            words
+        }))
     }
 }

@@ -27,13 +27,7 @@ fn tell_usage(rt: &HostRuntime) -> Failed {
 
 // The words of the call, the program's own name left out.
 fn arguments(rt: &HostRuntime) -> Result<Vec<String>, Failed> {
-    let mut words = Vec::new(rt.alloc());
-    for word in env::args(rt)?.skip(1) {
-        if words.push(word).is_err() {
-            return Err(Failed::Memory);
-        }
-    }
-    Ok(words)
+    Ok(env::args(rt)?.skip(1).collect(rt.alloc())?)
 }
 
 fn run(rt: &HostRuntime) -> Result<(), Failed> {
@@ -47,6 +41,7 @@ fn run(rt: &HostRuntime) -> Result<(), Failed> {
 }
 
 // A command on a file.
+// Stays (5): no plainer: the tools are one for the whole call, and the path is one command's.
 fn run_on(rt: &HostRuntime, tools: &mut Tools, command: &str, path: &str) -> Result<(), Failed> {
     match command {
         "compile" => compile(rt, tools, path),
@@ -56,16 +51,15 @@ fn run_on(rt: &HostRuntime, tools: &mut Tools, command: &str, path: &str) -> Res
     }
 }
 
-// Standard error is told what is wrong, and the status is 1.
+// Standard error is told what is wrong, if it was not yet, and the status is 1.
 fn told(rt: &HostRuntime, failed: Failed) -> ExitCode {
-    let _ = match failed {
-        Failed::Told => Ok(()),
-        Failed::Memory => eprintln!(rt; "talft: not enough memory"),
-        Failed::Channel => eprintln!(rt; "talft: cannot read or write"),
-    };
+    if !matches!(failed, Failed::Told) {
+        let _ = eprintln!(rt; "talft: {failed}");
+    }
     ExitCode::FAILURE
 }
 
+// Stays (4): no plainer: each arm is a status, and the second tells standard error before.
 fn main(rt: HostRuntime) -> ExitCode {
     match run(&rt) {
         Ok(()) => ExitCode::SUCCESS,

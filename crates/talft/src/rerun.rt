@@ -1,16 +1,15 @@
 // Scripts: read whole, then made as one list of calls, then answered line by line.
-ghost use Rattle.std.specs.Prelude.{◌≡◌, [], ◌∷◌, ◌++◌, vec_len, OnOk};
-ghost use Rattle.talft.specs.declared.calls.Entry.TheVariants.{Load};
-ghost use Rattle.talft.specs.Acts.{words_in, last_from};
+ghost use Rattle.std.specs.Prelude.{◌≡◌, [], ◌∷◌, ◌++◌, OnOk};
+ghost use Rattle.talft.specs.Acts.{verdict};
 
 use crate::answers::print_answers;
 use crate::calls::{Entry, calls_of};
 use crate::failed::Failed;
-use crate::files::{By, MOST_BYTES, module_words, read_file, read_script};
+use crate::files::{By, MOST_BYTES, read_file, read_script};
 use crate::judge::{Fault, Tools};
 use checker::check::Checker;
 use checker::pass::Pass;
-use memory::window::Window;
+use memory::window::{BadWindow, Window};
 use memory::{ArrayMemory, Memory};
 use plan::limits::TEXT;
 use script::command::{Command, command_of, second_word};
@@ -18,7 +17,7 @@ use simulator::call::{Answer, Call};
 use simulator::simulator::Simulator;
 use std::alloc::{AllocError, Global};
 use std::str::from_utf8;
-use text::bytes::{first_line, first_word, said};
+use text::bytes::{first_word, said};
 use text::list::{ListFault, read_list};
 
 // Start and length of a window.
@@ -28,190 +27,163 @@ struct Frame {
     length: u64,
 }
 
+// How far a script is read: no line yet, lines that say what there is, or a call among them.
+#[derive(Clone, Copy, PartialEq, Eq, PartialOrd, Ord)]
+enum Stage {
+    Fresh,
+    Begun,
+    Called,
+}
+
+// A line of a script, without its comment.
+#[derive(Clone, Copy)]
+struct Line<'a> {
+    number: usize,
+    said: &'a [u8],
+}
+
+impl<'a> Line<'a> {
+    fn complain(self, rt: &HostRuntime, what: &str) -> Failed {
+        let number = self.number;
+        let _ = eprintln!(rt; "talft: line {number}: {what}");
+        Failed::Told
+    }
+
+    // The file that the line names.
+    fn path(self, rt: &HostRuntime) -> Result<&'a str, Failed> {
+        second_word(self.said)
+            .and_then(|word| from_utf8(word).ok())
+            .ok_or_else(|| self.complain(rt, "the file's name is no text"))
+    }
+}
+
 // A script as far as it is read.
 #[derive(Drop)]
 struct Script {
+    stage: Stage,
     cells: Vec<u32>,
     window: Option<Frame>,
-    // The words of all modules that passed, and where those of the last one begin.
-    passed: Vec<u32>,
-    from: usize,
     entries: Vec<Entry>,
-    // Whether a line was read, and a call among them.
-    begun: bool,
-    called: bool,
 }
 
 impl Script {
-    // Nothing read: no cells, and loads load the module of one halt.
-    fn new(heap: Global) -> Result<Script, AllocError> {
-        let passed = Pass::new().words().to_vec(heap)?;
-        Ok(Script {
+    // Nothing read, and no cells.
+    fn new(heap: Global) -> Script {
+        Script {
+            stage: Stage::Fresh,
             cells: Vec::new(heap),
             window: None,
-            passed,
-            from: 0,
             entries: Vec::new(heap),
-            begun: false,
-            called: false,
-        })
+        }
     }
 
-    fn add(&mut self, entry: Entry) -> Result<(), Failed> {
-        self.entries.push(entry)?;
-        Ok(())
-    }
-
-    fn add_call(&mut self, entry: Entry) -> Result<(), Failed> {
-        self.called = true;
-        self.add(entry)
-    }
-
-    // Adds a load of the words that passed last.
-    fn add_load(&mut self) -> Result<(), Failed>
-        ensures loaded { OnOk result (self.new.entries.items ≡ self.old.entries.items ++ Load self.old.from (vec_len self.old.passed) ∷ []) }
-        ensures passed { self.new.passed ≡ self.old.passed }
+    fn add(&mut self, entry: Entry) -> Result<(), Failed>
+        ensures { OnOk result (self.new.entries.items ≡ self.old.entries.items ++ entry ∷ []) }
     {
-        let from = self.from;
-        let to = self.passed.len();
-        self.called = true;
-        self.entries.push(Entry::Load { from, to })?;
+        self.entries.push(entry)?;
         Ok(())
     }
 
     // Adds the verdict on a plan or a module. The next loads load what passed; what did not leaves the former words.
     fn add_module(&mut self, judged: Result<Vec<u32>, Fault>) -> Result<(), Failed>
-        ensures words { OnOk result (self.new.passed.items ≡ self.old.passed.items ++ words_in judged) }
-        ensures last { OnOk result (self.new.from ≡ last_from judged (vec_len self.old.passed) self.old.from) }
+        ensures { OnOk result (self.new.entries.items ≡ self.old.entries.items ++ verdict judged ∷ []) }
     {
         match judged {
-            Ok(words) => {
-                let from = self.passed.len();
-                self.passed.extend_from_slice(words.as_slice())?;
-                self.from = from;
-                self.entries.push(Entry::Passed { words: words.len() })?;
-                Ok(())
+            Ok(words) => self.add(Entry::Passed(words)),
+            Err(fault) => self.add(Entry::Faulty(fault)),
+        }
+    }
+
+    fn add_call(&mut self, entry: Entry) -> Result<(), Failed>
+        ensures { OnOk result (self.new.entries.items ≡ self.old.entries.items ++ entry ∷ []) }
+    {
+        self.stage = Stage::Called;
+        self.add(entry)
+    }
+
+    fn take_cells(&mut self, rt: &HostRuntime, line: Line<'_>) -> Result<(), Failed> {
+        if self.stage != Stage::Fresh {
+            return Err(line.complain(rt, "cells stand first, and once"));
+        }
+        let words = first_word(line.said).map_or(line.said, |first| first.rest);
+        self.cells = read_list(rt.alloc(), words, words.len()).map_err(|fault| match fault {
+            ListFault::NoNumber(_) => line.complain(rt, "cells are numbers of 32 bits"),
+            ListFault::Memory => Failed::Memory(AllocError),
+        })?;
+        Ok(())
+    }
+
+    fn take_window(
+        &mut self,
+        rt: &HostRuntime,
+        line: Line<'_>,
+        frame: Frame,
+    ) -> Result<(), Failed> {
+        if self.stage == Stage::Called || self.window.is_some() {
+            return Err(line.complain(rt, "a window stands before the calls, and once"));
+        }
+        self.window = Some(frame);
+        self.add(Entry::Window)
+    }
+
+    // Stays (5): no plainer: the tools are one for all lines, and the line is one of them.
+    fn take_plan(
+        &mut self,
+        rt: &HostRuntime,
+        tools: &mut Tools,
+        line: Line<'_>,
+    ) -> Result<(), Failed> {
+        let text = read_file(rt, By::Line(line.number), line.path(rt)?, TEXT)?;
+        let judged = tools.compiled(rt.alloc(), text.bytes.as_slice())?;
+        self.add_module(judged)
+    }
+
+    fn take_module(
+        &mut self,
+        rt: &HostRuntime,
+        tools: &mut Tools,
+        line: Line<'_>,
+    ) -> Result<(), Failed> {
+        let text = read_file(rt, By::Line(line.number), line.path(rt)?, MOST_BYTES)?;
+        let words = text.module_words(rt)?;
+        let judged = tools.check(words.as_slice());
+        self.add_module(judged.map(|()| words))
+    }
+
+    fn take_line(
+        &mut self,
+        rt: &HostRuntime,
+        tools: &mut Tools,
+        line: Line<'_>,
+    ) -> Result<(), Failed> {
+        let Some(command) = command_of(line.said) else {
+            return Err(line.complain(rt, "not a line of a script"));
+        };
+        match command {
+            Command::Blank => return Ok(()),
+            Command::Cells => self.take_cells(rt, line)?,
+            Command::Window { start, length } => {
+                self.take_window(rt, line, Frame { start, length })?
             }
-            Err(fault) => {
-                self.entries.push(Entry::Faulty(fault))?;
-                Ok(())
-            }
+            Command::Plan => self.take_plan(rt, tools, line)?,
+            Command::Module => self.take_module(rt, tools, line)?,
+            Command::Load => self.add_call(Entry::Load)?,
+            _ => self.add_call(Entry::Call(command))?,
         }
+        self.stage = self.stage.max(Stage::Begun);
+        Ok(())
     }
 }
 
-fn complain(rt: &HostRuntime, number: usize, what: &str) -> Failed {
-    let _ = eprintln!(rt; "talft: line {number}: {what}");
-    Failed::Told
-}
-
-fn take_cells(
-    rt: &HostRuntime,
-    script: &mut Script,
-    number: usize,
-    line: &[u8],
-) -> Result<(), Failed> {
-    if script.begun {
-        return Err(complain(rt, number, "cells stand first, and once"));
-    }
-    let words = first_word(line).rest;
-    match read_list(rt.alloc(), words, words.len()) {
-        Ok(cells) => {
-            script.cells = cells;
-            Ok(())
-        }
-        Err(ListFault::NoNumber(_)) => Err(complain(rt, number, "cells are numbers of 32 bits")),
-        Err(ListFault::Memory) => Err(Failed::Memory),
-    }
-}
-
-fn take_window(
-    rt: &HostRuntime,
-    script: &mut Script,
-    number: usize,
-    frame: Frame,
-) -> Result<(), Failed> {
-    if script.called || script.window.is_some() {
-        return Err(complain(rt, number, "a window stands before the calls, and once"));
-    }
-    script.window = Some(frame);
-    script.add(Entry::Window)
-}
-
-// The file that a line names.
-fn path_of<'a>(rt: &HostRuntime, number: usize, line: &'a [u8]) -> Result<&'a str, Failed> {
-    match from_utf8(second_word(line)) {
-        Ok(path) => Ok(path),
-        Err(_) => Err(complain(rt, number, "the file's name is no text")),
-    }
-}
-
-fn take_plan(
-    rt: &HostRuntime,
-    tools: &mut Tools,
-    script: &mut Script,
-    number: usize,
-    line: &[u8],
-) -> Result<(), Failed> {
-    let path = path_of(rt, number, line)?;
-    let text = read_file(rt, By::Line(number), path, TEXT)?;
-    let judged = tools.compiled(rt.alloc(), text.as_slice())?;
-    script.add_module(judged)
-}
-
-fn take_module(
-    rt: &HostRuntime,
-    tools: &mut Tools,
-    script: &mut Script,
-    number: usize,
-    line: &[u8],
-) -> Result<(), Failed> {
-    let path = path_of(rt, number, line)?;
-    let by = By::Line(number);
-    let text = read_file(rt, by, path, MOST_BYTES)?;
-    let words = module_words(rt, by, path, text.as_slice())?;
-    match tools.check(words.as_slice()) {
-        Ok(()) => script.add_module(Ok(words)),
-        Err(fault) => script.add_module(Err(fault)),
-    }
-}
-
-fn take_line(
-    rt: &HostRuntime,
-    tools: &mut Tools,
-    script: &mut Script,
-    number: usize,
-    line: &[u8],
-) -> Result<(), Failed> {
-    let Some(command) = command_of(line) else {
-        return Err(complain(rt, number, "not a line of a script"));
-    };
-    match command {
-        Command::Blank => return Ok(()),
-        Command::Cells => take_cells(rt, script, number, line)?,
-        Command::Window { start, length } => {
-            take_window(rt, script, number, Frame { start, length })?
-        }
-        Command::Plan => take_plan(rt, tools, script, number, line)?,
-        Command::Module => take_module(rt, tools, script, number, line)?,
-        Command::Load => script.add_load()?,
-        _ => script.add_call(Entry::Call(command))?,
-    }
-    script.begun = true;
-    Ok(())
-}
-
-// Reads a script; no call is made yet.
+// Reads a script; no call is made yet. What stands behind its last newline is a line too, blank if nothing does.
 fn read_all(rt: &HostRuntime, tools: &mut Tools, text: &[u8]) -> Result<Script, Failed> {
-    let mut script = Script::new(rt.alloc())?;
-    let mut rest = text;
-    for number in 1..usize::MAX {
-        if rest.is_empty() {
-            break;
-        }
-        let split = first_line(rest);
-        take_line(rt, tools, &mut script, number, said(split.part))?;
-        rest = split.rest;
+    let mut script = Script::new(rt.alloc());
+    for (index, line) in text.split(|byte| *byte == b'\n').enumerate() {
+        let line = Line {
+            number: index.saturating_add(1),
+            said: said(line),
+        };
+        script.take_line(rt, tools, line)?;
     }
     Ok(script)
 }
@@ -223,49 +195,67 @@ fn replay_over<M: Memory + Drop>(
     memory: M,
     calls: &[Call<'_>],
 ) -> Result<Vec<Answer>, Failed> {
-    match Simulator::new(heap, memory) {
-        Ok(mut simulator) => Ok(simulator.replay(heap, checker, calls)?),
-        Err(_) => Err(Failed::Memory),
-    }
+    let Ok(mut simulator) = Simulator::new(heap, memory) else {
+        return Err(Failed::Memory(AllocError));
+    };
+    Ok(simulator.replay(heap, checker, calls)?)
 }
 
-// The answers of the calls over the cells, seen through the window if there is one. A window that is refused leaves
-// the cells as they are; the number of its refusal comes with the answers.
+// Whether there could be a window, and the answers of the calls.
+#[derive(Drop)]
+struct Replayed {
+    window: Result<(), BadWindow<()>>,
+    answers: Vec<Answer>,
+}
+
+// Makes the calls over the cells, seen through the window if there is one. A window that is refused leaves the cells
+// as they are.
 fn replay_calls(
     heap: Global,
     checker: &mut Checker,
     cells: &mut [u32],
     frame: Option<Frame>,
     calls: &[Call<'_>],
-) -> Result<(Option<u32>, Vec<Answer>), Failed> {
+) -> Result<Replayed, Failed> {
     let array = ArrayMemory { words: cells };
     let Some(frame) = frame else {
-        return Ok((None, replay_over(heap, checker, array, calls)?));
+        return Ok(Replayed {
+            window: Ok(()),
+            answers: replay_over(heap, checker, array, calls)?,
+        });
     };
     match Window::new(array, frame.start, frame.length) {
-        Ok(window) => Ok((None, replay_over(heap, checker, window, calls)?)),
-        Err(refused) => {
-            let number = refused.number();
-            let answers = replay_over(heap, checker, refused.memory, calls)?;
-            Ok((Some(number), answers))
-        }
+        Ok(window) => Ok(Replayed {
+            window: Ok(()),
+            answers: replay_over(heap, checker, window, calls)?,
+        }),
+        Err(refused) => Ok(Replayed {
+            window: Err(BadWindow { memory: () }),
+            answers: replay_over(heap, checker, refused.memory, calls)?,
+        }),
     }
 }
 
-// Reads the script from standard input, makes its calls as one list, and prints an answer for each line.
+// Reads the script from standard input, makes its calls as one list, and prints an answer for each line. Loads before
+// any plan or module that passed load the module of one halt.
 pub fn rerun(rt: &HostRuntime, tools: &mut Tools) -> Result<(), Failed> {
     let heap = rt.alloc();
     let text = read_script(rt)?;
     let mut script = read_all(rt, tools, text.as_slice())?;
-    let frame = script.window;
-    let calls = calls_of(heap, script.entries.as_slice(), script.passed.as_slice())?;
-    let (window, answers) = replay_calls(
+    let halt = Pass::new();
+    let calls = calls_of(heap, halt.words(), script.entries.as_slice())?;
+    let replayed = replay_calls(
         heap,
         &mut tools.checker,
         script.cells.as_mut_slice(),
-        frame,
+        script.window,
         calls.as_slice(),
     )?;
-    print_answers(rt, script.entries.as_slice(), window, answers.as_slice())?;
+    print_answers(
+        rt,
+        script.entries.as_slice(),
+        &replayed.window,
+        replayed.answers.as_slice(),
+    )?;
     Ok(())
 }

@@ -1,7 +1,7 @@
 // The commands on one file.
 use crate::failed::Failed;
-use crate::files::{By, MOST_BYTES, module_words, read_file};
-use crate::judge::{Fault, Tools, layer_name};
+use crate::files::{By, MOST_BYTES, Text, read_file};
+use crate::judge::{Fault, Tools};
 use checker::fault::CheckFault;
 use compiler::fault::CompileFault;
 use isa::layout::{block_count, examine, instruction_count};
@@ -12,66 +12,70 @@ use std::io::Write;
 use text::bytes::is_module;
 use text::place::{line_at, locate};
 
-// A fault of a plan: number, layer and byte, and its line with a mark under the spot.
-fn tell_compile_fault(
-    rt: &HostRuntime,
-    path: &str,
-    text: &[u8],
-    fault: CompileFault,
-) -> io::Result<()> {
-    let place = fault.place();
-    let spot = locate(text, place);
-    eprintln!(rt;
-        "{path}: fault {}, layer {}, at byte {place}: line {}, column {}",
-        fault.number(),
-        layer_name(fault.layer()),
-        spot.line,
-        spot.column
-    )?;
-    rt.stderr().write_all(line_at(text, place))?;
-    eprintln!(rt; "")?;
-    for _ in 1..spot.column {
-        eprint!(rt; " ")?;
+impl Text<'_> {
+    // A fault of a plan: number, layer and byte, and its line with a mark under the spot.
+    fn tell_compile_fault(&self, rt: &HostRuntime, fault: CompileFault) -> io::Result<()> {
+        let place = fault.place();
+        let text = self.bytes.as_slice();
+        let spot = locate(text, place);
+        eprintln!(rt;
+            "{}: fault {}, layer {}, at byte {place}: line {}, column {}",
+            self.path,
+            fault.number(),
+            fault.layer(),
+            spot.line,
+            spot.column
+        )?;
+        rt.stderr().write_all(line_at(text, place))?;
+        eprintln!(rt; "")?;
+        for _ in 1..spot.column {
+            eprint!(rt; " ")?;
+        }
+        eprintln!(rt; "^")
     }
-    eprintln!(rt; "^")
-}
 
-// A fault of a module: number and place.
-fn tell_check_fault(rt: &HostRuntime, path: &str, fault: CheckFault) -> io::Result<()> {
-    let number = fault.number();
-    match fault {
-        CheckFault::Malformed => eprintln!(rt; "{path}: fault {number} at 0"),
-        CheckFault::Block(block) => eprintln!(rt; "{path}: fault {number} at block {block}"),
-        CheckFault::Rule(place) => eprintln!(rt; "{path}: fault {number} at instruction {place}"),
+    // A fault of a module: number and place.
+    fn tell_check_fault(&self, rt: &HostRuntime, fault: CheckFault) -> io::Result<()> {
+        let path = self.path;
+        let number = fault.number();
+        match fault {
+            CheckFault::Malformed => eprintln!(rt; "{path}: fault {number} at 0"),
+            CheckFault::Block(block) => eprintln!(rt; "{path}: fault {number} at block {block}"),
+            CheckFault::Rule(place) => eprintln!(rt;
+                "{path}: fault {number} at instruction {place}"
+            ),
+        }
     }
-}
 
-fn tell_fault(rt: &HostRuntime, path: &str, text: &[u8], fault: Fault) -> Failed {
-    let _ = match fault {
-        Fault::Plan(fault) => tell_compile_fault(rt, path, text, fault),
-        Fault::Module(fault) => tell_check_fault(rt, path, fault),
-    };
-    Failed::Told
-}
+    fn tell_fault(&self, rt: &HostRuntime, fault: Fault) -> Failed {
+        let _ = match fault {
+            Fault::Plan(fault) => self.tell_compile_fault(rt, fault),
+            Fault::Module(fault) => self.tell_check_fault(rt, fault),
+        };
+        Failed::Told
+    }
 
-// The words of a plan, which passed the check.
-fn plan_words(
-    rt: &HostRuntime,
-    tools: &mut Tools,
-    path: &str,
-    text: &[u8],
-) -> Result<Vec<u32>, Failed> {
-    match tools.compiled(rt.alloc(), text)? {
-        Ok(words) => Ok(words),
-        Err(fault) => Err(tell_fault(rt, path, text, fault)),
+    // The words of the module of the plan that the file is; they passed the check.
+    fn plan_words(&self, rt: &HostRuntime, tools: &mut Tools) -> Result<Vec<u32>, Failed> {
+        tools
+            .compiled(rt.alloc(), self.bytes.as_slice())?
+            .map_err(|fault| self.tell_fault(rt, fault))
+    }
+
+    // The words of a plan's module, or of a module, as the file's form says.
+    fn words(&self, rt: &HostRuntime, tools: &mut Tools) -> Result<Vec<u32>, Failed> {
+        if is_module(self.bytes.as_slice()) {
+            self.module_words(rt)
+        } else {
+            self.plan_words(rt, tools)
+        }
     }
 }
 
 // Prints the words of a plan's module, one a line.
 pub fn compile(rt: &HostRuntime, tools: &mut Tools, path: &str) -> Result<(), Failed> {
-    let text = read_file(rt, By::Call, path, TEXT)?;
-    let words = plan_words(rt, tools, path, text.as_slice())?;
-    for word in words.iter() {
+    let words = read_file(rt, By::Call, path, TEXT)?.plan_words(rt, tools)?;
+    for word in &words {
         println!(rt; "{word}")?;
     }
     Ok(())
@@ -86,27 +90,13 @@ fn print_verdict(rt: &HostRuntime, words: &[u32]) -> io::Result<()> {
     )
 }
 
-// The words of a plan's module, or of a module, as the file's form says.
-fn words_of(
-    rt: &HostRuntime,
-    tools: &mut Tools,
-    path: &str,
-    text: &[u8],
-) -> Result<Vec<u32>, Failed> {
-    if is_module(text) {
-        module_words(rt, By::Call, path, text)
-    } else {
-        plan_words(rt, tools, path, text)
-    }
-}
-
 // Prints the verdict on a plan or a module.
 pub fn check(rt: &HostRuntime, tools: &mut Tools, path: &str) -> Result<(), Failed> {
     let text = read_file(rt, By::Call, path, MOST_BYTES)?;
-    let words = words_of(rt, tools, path, text.as_slice())?;
-    if let Err(fault) = tools.check(words.as_slice()) {
-        return Err(tell_fault(rt, path, text.as_slice(), fault));
-    }
+    let words = text.words(rt, tools)?;
+    tools
+        .check(words.as_slice())
+        .map_err(|fault| text.tell_fault(rt, fault))?;
     print_verdict(rt, words.as_slice())?;
     Ok(())
 }
@@ -114,10 +104,10 @@ pub fn check(rt: &HostRuntime, tools: &mut Tools, path: &str) -> Result<(), Fail
 // Prints the listing of a plan's module, or of a module that is laid out as one.
 pub fn list(rt: &HostRuntime, tools: &mut Tools, path: &str) -> Result<(), Failed> {
     let text = read_file(rt, By::Call, path, MOST_BYTES)?;
-    let words = words_of(rt, tools, path, text.as_slice())?;
+    let words = text.words(rt, tools)?;
     if let Err(fault) = examine(words.as_slice()) {
         let fault = Fault::Module(CheckFault::from(fault));
-        return Err(tell_fault(rt, path, text.as_slice(), fault));
+        return Err(text.tell_fault(rt, fault));
     }
     print_module(rt, words.as_slice())?;
     Ok(())

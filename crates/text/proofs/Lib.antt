@@ -1,4 +1,2 @@
 mod Running
 mod Reading
-mod Placing
-mod Listing

@@ -1,63 +1,77 @@
--- Runs of bytes, and words cut off by them.
-use Rattle.std.proofs.Common.{◌≡◌, ℕ, suc, ◌+◌, ◌<◌, ◌≤◌, Bool, true, false, cond, not, List, [], ◌∷◌, length, get_or, take, drop, sym, refl, ap, ◌∙◌, arith}
-use Rattle.std.proofs.lemmas.List.{at_drop_more, at_drop_all}
-use Rattle.text.specs.declared.bytes.Class.{Class}
-use Rattle.text.specs.declared.bytes.Class.TheVariants.{White, Dark}
-use Rattle.text.specs.Bytes.{white, holds, counted, run, glued, words, before}
+-- Texts cut before a byte, and words cut off.
+use Rattle.std.proofs.Common.{◌≡◌, ℕ, suc, ◌+◌, ◌<◌, Bool, true, false, cond, not, List, [], ◌∷◌, ◌++◌, length, get_or, drop, sym, refl, ap, ◌∙◌, arith}
+use Rattle.std.specs.List.{position_or_len, before_first, after_first}
+use Rattle.std.proofs.Math.Seq.{take-append_seam, drop-append_seam, drop-drop}
+use Rattle.text.specs.Bytes.{white, glued, words}
 
-pub run_short : (k : Class) (bs : List ℕ) → run k bs ≤ length bs
-run_short k [] = omega arith
-run_short k (b ∷ bs) = one (holds k b) (run_short k bs)
-  where
-    one : (t : Bool) → run k bs ≤ length bs → counted t (run k bs) ≤ length (b ∷ bs)
-    one true h = omega arith
-    one false h = omega arith
+-- no byte of a part passes a test, and the first of the rest does
+abbrev pub Avoids : (ℕ → Bool) → List ℕ → Type 0
+Avoids p part = (k : ℕ) → k < length part → false ≡ p (get_or part k 0)
 
--- one byte on, at another byte, at the end
-pub run_more : (k : Class) (bs : List ℕ) (i : ℕ) → i < length bs → holds k (get_or bs i 0) ≡ true → run k (drop i bs) ≡ suc (run k (drop (i + 1) bs))
-run_more k bs i l h = at_drop_more (run k) bs i 0 l ∙ ap (λ t. counted t (run k (drop (i + 1) bs))) h
+abbrev pub Ends : (ℕ → Bool) → List ℕ → Type 0
+Ends p rest = 0 < length rest → true ≡ p (get_or rest 0 0)
 
-pub run_over : (k : Class) (bs : List ℕ) (i : ℕ) → i < length bs → holds k (get_or bs i 0) ≡ false → run k (drop i bs) ≡ 0
-run_over k bs i l h = at_drop_more (run k) bs i 0 l ∙ ap (λ t. counted t (run k (drop (i + 1) bs))) h
+module _ (p : ℕ → Bool) where
+  -- the place of the cut
+  cut_place : (part rest : List ℕ) → Avoids p part → Ends p rest → position_or_len p (part ++ rest) ≡ length part
+  cut_place [] [] h e = refl
+  cut_place [] (b ∷ bs) h e = ap (λ t. cond (not t) (1 + position_or_len p bs) 0) (sym (e (omega arith)))
+  cut_place (b ∷ part) rest h e =
+      let here = ap (λ t. cond (not t) (1 + position_or_len p (part ++ rest)) 0) (sym (h 0 (omega arith))) in
+      let behind = cut_place part rest (λ k l. h (suc k) (omega (arith, l))) e in
+      here ∙ omega (arith, behind)
 
-pub run_end : (k : Class) (bs : List ℕ) (i : ℕ) → length bs ≤ i → run k (drop i bs) ≡ 0
-run_end k bs i l = at_drop_all (run k) bs i l
+  pub cut_part : (text part rest : List ℕ) → text ≡ part ++ rest → Avoids p part → Ends p rest → part ≡ before_first p text
+  cut_part text part rest w h e = sym (rw (w, cut_place part rest h e) (take-append_seam part rest))
+
+  pub cut_rest : (text part rest : List ℕ) → text ≡ part ++ rest → Avoids p part → Ends p rest → rest ≡ drop (position_or_len p text) text
+  cut_rest text part rest w h e = sym (rw (w, cut_place part rest h e) (drop-append_seam part rest))
+
+  pub cut_behind : (text part rest : List ℕ) → text ≡ part ++ rest → Avoids p part → Ends p rest → drop 1 rest ≡ after_first p text
+  cut_behind text part rest w h e = ap (drop 1) (cut_rest text part rest w h e) ∙ drop-drop 1 (position_or_len p text) text
 
 -- white space before the words goes
-pub words-white : (bs : List ℕ) → words bs ≡ words (drop (run White bs) bs)
-words-white [] = refl
-words-white (b ∷ bs) = one (white b) refl (words-white bs)
+words_white : (part rest : List ℕ) → Avoids (λ b. not (white b)) part → words (part ++ rest) ≡ words rest
+words_white [] rest h = refl
+words_white (b ∷ part) rest h = one (white b) (h 0 (omega arith)) ∙ words_white part rest (λ k l. h (suc k) (omega (arith, l)))
   where
-    one : (t : Bool) → white b ≡ t → words bs ≡ words (drop (run White bs) bs) → words (b ∷ bs) ≡ words (drop (counted t (run White bs)) (b ∷ bs))
-    one true e h = ap (λ t. cond t (words bs) (glued b bs (words bs))) e ∙ h
-    one false e h = refl
+    one : (t : Bool) → false ≡ not t → cond t (words (part ++ rest)) (glued b (part ++ rest) (words (part ++ rest))) ≡ words (part ++ rest)
+    one true e = refl
+    one false e = absurd cc
 
--- what is left does not begin with white space
-abbrev Begins : List ℕ → Type 0
-Begins [] = Unit {0}
-Begins (b ∷ bs) = white b ≡ false
-
-pub white-over : (bs : List ℕ) → Begins (drop (run White bs) bs)
-white-over [] = tt
-white-over (b ∷ bs) = one (white b) refl (white-over bs)
+-- a word is cut off
+word_off : (part rest : List ℕ) → Avoids white part → Ends white rest → 0 < length part → words (part ++ rest) ≡ part ∷ words rest
+word_off [] rest h e s = absurd (omega arith)
+word_off (b ∷ []) rest h e s = ap (λ t. cond t (words rest) (glued b rest (words rest))) (sym (h 0 (omega arith))) ∙ last rest e
   where
-    one : (t : Bool) → white b ≡ t → Begins (drop (run White bs) bs) → Begins (drop (counted t (run White bs)) (b ∷ bs))
-    one true e h = h
-    one false e h = e
+    last : (rest : List ℕ) → Ends white rest → glued b rest (words rest) ≡ (b ∷ []) ∷ words rest
+    last [] e = refl
+    last (c ∷ cs) e = alone (words (c ∷ cs))
+      where
+        alone : (ws : List (List ℕ)) → glued b (c ∷ cs) ws ≡ (b ∷ []) ∷ ws
+        alone [] = refl
+        alone (w ∷ ws) = ap (λ t. cond t ((b ∷ []) ∷ w ∷ ws) ((b ∷ w) ∷ ws)) (sym (e (omega arith)))
+word_off (b ∷ c ∷ part) rest h e s =
+    ap (λ t. cond t (words (c ∷ part ++ rest)) (glued b (c ∷ part ++ rest) (words (c ∷ part ++ rest)))) (sym (h 0 (omega arith)))
+    ∙ ap (glued b (c ∷ part ++ rest)) (word_off (c ∷ part) rest (λ k l. h (suc k) (omega (arith, l))) e (omega arith))
+    ∙ ap (λ t. cond t ((b ∷ []) ∷ (c ∷ part) ∷ words rest) ((b ∷ c ∷ part) ∷ words rest)) (sym (h 1 (omega arith)))
 
--- a word is cut off its text
-cut_off : (b : ℕ) (bs : List ℕ) → white b ≡ false → words (b ∷ bs) ≡ (b ∷ take (run Dark bs) bs) ∷ words (drop (run Dark bs) bs)
-cut_off b [] e = ap (λ t. cond t [] ((b ∷ []) ∷ [])) e
-cut_off b (c ∷ bs) e = ap (λ t. cond t (words (c ∷ bs)) (glued b (c ∷ bs) (words (c ∷ bs)))) e ∙ one (white c) refl (cut_off c bs)
-  where
-    glued_white : (ws : List (List ℕ)) → white c ≡ true → glued b (c ∷ bs) ws ≡ (b ∷ []) ∷ ws
-    glued_white [] h = refl
-    glued_white (w ∷ ws) h = ap (λ t. cond t ((b ∷ []) ∷ w ∷ ws) ((b ∷ w) ∷ ws)) h
+-- the first word behind white space, and no word
+module _ (text white_part all part rest : List ℕ) (w : text ≡ white_part ++ all) (h : Avoids (λ b. not (white b)) white_part) (w' : all ≡ part ++ rest) where
+  pub word_first : Avoids white part → Ends white rest → (length part ≡ 0 → ⊥) → words text ≡ part ∷ words rest
+  word_first h' e s = ap words w ∙ words_white white_part all h ∙ ap words w' ∙ word_off part rest h' e (omega (arith, s))
 
-    one : (t : Bool) → white c ≡ t → (white c ≡ false → words (c ∷ bs) ≡ (c ∷ take (run Dark bs) bs) ∷ words (drop (run Dark bs) bs)) → glued b (c ∷ bs) (words (c ∷ bs)) ≡ (b ∷ take (counted (not t) (run Dark bs)) (c ∷ bs)) ∷ words (drop (counted (not t) (run Dark bs)) (c ∷ bs))
-    one true h k = glued_white (words (c ∷ bs)) h
-    one false h k = ap (glued b (c ∷ bs)) (k h) ∙ ap (λ t. cond t ((b ∷ []) ∷ (c ∷ take (run Dark bs) bs) ∷ words (drop (run Dark bs) bs)) ((b ∷ c ∷ take (run Dark bs) bs) ∷ words (drop (run Dark bs) bs))) h
-
-pub first_word : (bs : List ℕ) → Begins bs → words bs ≡ before (take (run Dark bs) bs) (words (drop (run Dark bs) bs))
-first_word [] h = refl
-first_word (b ∷ bs) h = cut_off b bs h ∙ sym (ap (λ t. before (take (counted (not t) (run Dark bs)) (b ∷ bs)) (words (drop (counted (not t) (run Dark bs)) (b ∷ bs)))) h)
+  pub word_none : Ends (λ b. not (white b)) all → Ends white rest → length part ≡ 0 → words text ≡ []
+  word_none a e s = ap words w ∙ words_white white_part all h ∙ ap words (none part w' s)
+    where
+      none : (part : List ℕ) → all ≡ part ++ rest → length part ≡ 0 → all ≡ []
+      none (b ∷ bs) q s = absurd (omega arith)
+      none [] q s = same all rest q a e
+        where
+          same : (xs ys : List ℕ) → xs ≡ ys → Ends (λ b. not (white b)) xs → Ends white ys → xs ≡ []
+          same [] ys q a e = refl
+          same (x ∷ xs) [] q a e = q
+          same (x ∷ xs) (y ∷ ys) q a e =
+              let light : true ≡ not (white x) = a (omega arith) in
+              let dark : true ≡ white y = e (omega arith) in
+              absurd cc

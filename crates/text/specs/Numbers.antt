@@ -3,6 +3,10 @@ use Rattle.std.specs.Prelude.{ℕ, ◌-◌, ◌^◌, Bool, true, false, cond, �
 use Rattle.std.specs.Str.Parse.{digits_value}
 use Rattle.std.specs.Char.{digit_value}
 
+-- a number, where it is at most this
+abbrev pub fitting : ℕ → ℕ → Option ℕ
+fitting most n = cond (nat_le n most) (Some n) None
+
 -- digits of a radix: 0 to 9, and from ten on the letters from a or A
 abbrev pub all_digits : ℕ → List ℕ → Bool
 all_digits radix [] = true

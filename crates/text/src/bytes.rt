@@ -1,67 +1,12 @@
-// Runs of bytes, and the words of a text.
-ghost use Rattle.std.specs.Prelude.{◌≡◌, ◌+◌, ◌≤◌, length, take, drop};
-ghost use Rattle.text.specs.Bytes.{white, holds, run, front, words, before, numeric};
-
-// Which bytes a run is of.
-#[derive(Clone, Copy)]
-pub(crate) enum Class {
-    // White space.
-    White,
-    // All others: the bytes of words.
-    Dark,
-    // The bytes of a line.
-    Line,
-    // What stands before a comment.
-    Said,
-}
+// Texts cut before a byte, and the words of a text.
+ghost use Rattle.std.specs.Prelude.{◌≡◌, ℕ, ◌<◌, ◌==◌, true, false, [], ◌∷◌, ◌++◌, length, slice_index, MatchOption};
+ghost use Rattle.std.specs.List.{before_first, after_first};
+ghost use Rattle.text.specs.Bytes.{white, words, numeric};
 
 fn is_white(byte: u8) -> bool
     ensures { result ≡ white byte }
 {
-    byte == b' ' || (byte >= b'\t' && byte <= b'\r')
-}
-
-fn is_of(class: Class, byte: u8) -> bool
-    ensures { result ≡ holds class byte }
-{
-    match class {
-        Class::White => is_white(byte),
-        Class::Dark => !is_white(byte),
-        Class::Line => byte != b'\n',
-        Class::Said => byte != b'#',
-    }
-}
-
-// How many bytes at the front are of a class.
-pub(crate) fn run_length(text: &[u8], class: Class) -> usize
-    ensures count { result ≡ run class text.now }
-    ensures within { result ≤ length text.now }
-{
-    for at in 0..text.len() {
-        if !is_of(class, text[at]) {
-            return at;
-        }
-    }
-    text.len()
-}
-
-// The bytes of a text before one; all of them, for one past the end.
-pub(crate) fn up_to(text: &[u8], to: usize) -> &[u8]
-    ensures value { result.now ≡ take to text.now }
-    ensures within { length result.now ≤ length text.now }
-{
-    if to < text.len() { &text[0..to] } else { text }
-}
-
-// The bytes of a text from one on; none, for one past the end.
-pub(crate) fn behind(text: &[u8], from: usize) -> &[u8]
-    ensures { result.now ≡ drop from text.now }
-{
-    if from < text.len() {
-        &text[from..]
-    } else {
-        &text[0..0]
-    }
+    matches!(byte, b' ' | b'\t'..=b'\r')
 }
 
 // A part of a text, and what stands behind it.
@@ -71,35 +16,46 @@ pub struct Split<'a> {
     pub rest: &'a [u8],
 }
 
-// What stands before a comment.
-pub fn said(line: &[u8]) -> &[u8]
-    ensures { result.now ≡ front Class.Said line.now }
+// What stands before the first byte that passes a test, and the rest from that byte on; none is left, where none passes.
+pub(crate) fn cut<F: Fn(u8) -> bool>(text: &[u8], is_end: F) -> Split<'_>
+    requires { F.IsAlwaysCallable is_end }
+    ensures whole { text.now ≡ result.part.now ++ result.rest.now }
+    ensures part { (k : ℕ) → k < length result.part.now → F.post is_end (slice_index result.part.now k) false }
+    ensures end { 0 < length result.rest.now → F.post is_end (slice_index result.rest.now 0) true }
 {
-    up_to(line, run_length(line, Class::Said))
+    let end = text
+        .iter()
+        .position(|byte| is_end(*byte))
+        .unwrap_or(text.len());
+    let (part, rest) = text.split_at(end);
+    Split { part, rest }
 }
 
-// The first word and what stands behind it; an empty word where there is none.
-pub fn first_word(text: &[u8]) -> Split<'_>
-    ensures { words text.now ≡ before result.part.now (words result.rest.now) }
+// What stands before a comment.
+pub fn said(line: &[u8]) -> &[u8]
+    ensures { result.now ≡ before_first (λ b. b == 35) line.now }
 {
-    let from = run_length(text, Class::White);
-    let dark = behind(text, from);
-    let to = run_length(dark, Class::Dark);
-    Split {
-        part: up_to(dark, to),
-        rest: behind(dark, to),
-    }
+    cut(line, |byte| byte == b'#').part
+}
+
+// The first word and what stands behind it, if there is a word.
+pub fn first_word(text: &[u8]) -> Option<Split<'_>>
+    ensures { MatchOption result (words text.now ≡ []) (λ s. words text.now ≡ s.part.now ∷ words s.rest.now) }
+{
+    let all = cut(text, |byte| !is_white(byte)).rest;
+    let first = cut(all, is_white);
+    (!first.part.is_empty()).then_some(first)
 }
 
 // The first line without its newline, and what stands behind that.
 pub fn first_line(text: &[u8]) -> Split<'_>
-    ensures part { result.part.now ≡ front Class.Line text.now }
-    ensures rest { result.rest.now ≡ drop (run Class.Line text.now + 1) text.now }
+    ensures part { result.part.now ≡ before_first (λ b. b == 10) text.now }
+    ensures rest { result.rest.now ≡ after_first (λ b. b == 10) text.now }
 {
-    let end = run_length(text, Class::Line);
+    let line = cut(text, |byte| byte == b'\n');
     Split {
-        part: up_to(text, end),
-        rest: behind(text, end.saturating_add(1)),
+        part: line.part,
+        rest: line.rest.get(1..).unwrap_or(&[]),
     }
 }
 
@@ -108,6 +64,5 @@ pub fn first_line(text: &[u8]) -> Split<'_>
 pub fn is_module(text: &[u8]) -> bool
     ensures { result ≡ numeric (words text.now) }
 {
-    let first = first_word(text).part;
-    first.len() > 0 && first[0] >= b'0' && first[0] <= b'9'
+    first_word(text).is_some_and(|first| matches!(first.part, [b'0'..=b'9', ..]))
 }

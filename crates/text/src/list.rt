@@ -16,6 +16,7 @@ pub enum ListFault {
     Memory,
 }
 
+// The clause of read_list names the fault that ? makes, and a derived From has no contract.
 impl From<AllocError> for ListFault {
     ghost from_gives = { λ _ r. r ≡ Memory };
 
@@ -39,13 +40,10 @@ pub fn read_list(heap: Global, text: &[u8], most: usize) -> Result<Vec<u32>, Lis
     let mut numbers = Vec::new(heap);
     let mut rest = text;
     while numbers.len() < most {
-        let split = first_word(rest);
-        if split.part.is_empty() {
+        let Some(split) = first_word(rest) else {
             break;
-        }
-        let Some(number) = word(split.part) else {
-            return Err(ListFault::NoNumber(numbers.len()));
         };
+        let number = word(split.part).ok_or(ListFault::NoNumber(numbers.len()))?;
         numbers.push(number)?;
         rest = split.rest;
     }

@@ -1,72 +1,41 @@
 // Numbers as text.
-ghost use Rattle.std.specs.Prelude.{◌≡◌, ◌+◌, ◌*◌, ◌<◌, ◌≤◌, T, length, IfSome};
-ghost use Rattle.std.specs.Char.{digit_value};
-ghost use Rattle.text.specs.Numbers.{numeral, hexed, number as number_of, word as word_of, wide as wide_of};
+ghost use Rattle.std.specs.Prelude.{◌≡◌, ◌+◌, ◌*◌, ◌-◌, ◌^◌, ◌≤◌};
+ghost use Rattle.text.specs.Numbers.{fitting, numeral, word as word_of, wide as wide_of};
 
-use crate::bytes::behind;
-
-// The value of a digit, or 36.
-fn digit(byte: u8) -> u8
-    ensures value { result ≡ digit_value byte }
-    ensures bound { result ≤ 36 }
+// The value of digits with one more behind them, in 64 bits.
+fn appended(value: u64, radix: u32, digit: u32) -> Option<u64>
+    ensures { result ≡ fitting (2 ^ 64 - 1) (value * radix + digit) }
 {
-    match byte {
-        b'0'..=b'9' => byte - b'0',
-        b'A'..=b'Z' => byte - b'A' + 10,
-        b'a'..=b'z' => byte - b'a' + 10,
-        _ => 36,
-    }
+    value
+        .checked_mul(u64::from(radix))?
+        .checked_add(u64::from(digit))
 }
 
-// The value of digits with one more behind them.
-fn appended(value: u64, radix: u8, digit: u8) -> u128
-    ensures { result ≡ value * radix + digit }
-{
-    u128::from(value) * u128::from(radix) + u128::from(digit)
-}
-
-// The value of digits, at most this; None for other bytes, and for none.
-fn digits(text: &[u8], radix: u8, most: u64) -> Option<u64>
-    requires low { 0 < radix }
+// The value of digits, in 64 bits; None for other bytes, and for none.
+// Stays (4): no plainer: the library's from_str_radix takes a sign before the digits, and a number here has none.
+fn digits(text: &[u8], radix: u32) -> Option<u64>
+    requires low { 2 ≤ radix }
     requires high { radix ≤ 36 }
-    ensures value { result ≡ numeral most radix text.now }
-    ensures bound { IfSome result (λ n. n ≤ most) }
+    ensures { result ≡ numeral (2 ^ 64 - 1) radix text.now }
 {
     if text.is_empty() {
         return None;
     }
     let mut value = 0u64;
     for byte in text {
-        let digit = digit(*byte);
-        if digit >= radix {
-            return None;
-        }
-        let more = appended(value, radix, digit);
-        if more > u128::from(most) {
-            return None;
-        }
-        value = more as u64;
+        let digit = char::from(*byte).to_digit(radix)?;
+        value = appended(value, radix, digit)?;
     }
     Some(value)
 }
 
-// Whether a number is hexadecimal.
-fn is_hexadecimal(text: &[u8]) -> bool
-    ensures value { result ≡ hexed text.now }
-    ensures long { T result → 2 ≤ length text.now }
+// A number of 64 bits, decimal or hexadecimal behind 0x.
+pub fn wide(text: &[u8]) -> Option<u64>
+    ensures { result ≡ wide_of text.now }
 {
-    text.len() >= 2 && text[0] == b'0' && text[1] == b'x'
-}
-
-// The number that a text is, decimal or hexadecimal behind 0x, at most this.
-fn number(text: &[u8], most: u64) -> Option<u64>
-    ensures value { result ≡ number_of most text.now }
-    ensures bound { IfSome result (λ n. n ≤ most) }
-{
-    if is_hexadecimal(text) {
-        digits(behind(text, 2), 16, most)
-    } else {
-        digits(text, 10, most)
+    match text {
+        [b'0', b'x', rest @ ..] => digits(rest, 16),
+        _ => digits(text, 10),
     }
 }
 
@@ -74,15 +43,5 @@ fn number(text: &[u8], most: u64) -> Option<u64>
 pub fn word(text: &[u8]) -> Option<u32>
     ensures { result ≡ word_of text.now }
 {
-    match number(text, 0xffff_ffff) {
-        Some(value) => Some(value as u32),
-        None => None,
-    }
-}
-
-// A number of 64 bits.
-pub fn wide(text: &[u8]) -> Option<u64>
-    ensures { result ≡ wide_of text.now }
-{
-    number(text, 0xffff_ffff_ffff_ffff)
+    u32::try_from(wide(text)?).ok()
 }

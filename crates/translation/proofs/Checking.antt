@@ -10,7 +10,7 @@ use Rattle.language.specs.Limits.{width, widest, depth, Proper, ProperPlan}
 use Rattle.translation.specs.Cards.{card}
 use Rattle.translation.specs.Code.{Source, num, copy, calc, fetch, set, Entry, inside, start, twice}
 use Rattle.translation.specs.Compile.{over, head_of, past, exit_of}
-use Rattle.translation.proofs.Twins.{upd_same, upd_other}
+use Rattle.rules.proofs.Updates.{upd_same, upd_other}
 use Rattle.translation.proofs.Values.{Word, WordIn}
 use Rattle.translation.proofs.Placing.{entry_of, before, Line}
 use Rattle.translation.proofs.Standing.{PlacedE, PlacedP, Loop, left, plan_open}

@@ -1,5 +1,6 @@
 -- Doubled code runs as its single copy does, two steps for one.
 use Rattle.std.proofs.Common.{◌≡◌, ℕ, suc, ◌-◌, ◌<◌, Bool, true, false, cond, not, ◌&&◌, eqb, List, [], ◌∷◌, ◌++◌, length, take, sym, refl, ap, ◌∙◌, subst, arith, length-append}
+use Rattle.std.specs.Cmp.Derive.{both_true}
 use lib.Dec.{eqb-suc-zero}
 use Rattle.std.proofs.lemmas.Bool.{lt-ltb}
 use Rattle.std.proofs.lemmas.List.{append-nil}
@@ -12,7 +13,7 @@ use Rattle.machine.specs.declared.ends.End.TheVariants.{Going, Halted, NoSuchCel
 use Rattle.machine.specs.declared.ends.Report.TheVariants.{CountersDiffer, StoreDiffers, Destination, Outside}
 use Rattle.machine.specs.Machine.{State, Outcome, stop, go, need, zero?, at, aim, land, exec, settled, Run, counted, step, after, leaving, made, started}
 use Rattle.translation.specs.Code.{Source, num, copy, calc, fetch, Single, set, store, jump, branch, twice, place, dye}
-use Rattle.translation.proofs.Twins.{eqb_same, spread, spread_at, upd_twin, upd_green, and_both}
+use Rattle.translation.proofs.Twins.{eqb_same, spread, spread_at, upd_twin, upd_green}
 use Rattle.translation.proofs.Values.{Word, get, WordIn, get_word, upd-word}
 use Rattle.translation.proofs.Placing.{Line}
 
@@ -152,7 +153,7 @@ module _ (w : ℕ → Bool) (m : Module) where
           step_at (waiting va vb) (suc (twice n)) _ (eqb_same (suc (twice p))) (omega (arith, L.room)) L.second
           ∙ (λ j. comes (waiting va vb) (suc (twice n)) (need (eqb va ((blue_is a ∙ ea) j) && eqb vb ((blue_is b ∙ eb) j)) StoreDiffers
           (cond (w ((blue_is a ∙ ea) j)) (go (stored ((blue_is a ∙ ea) j) ((blue_is b ∙ eb) j) (suc (length l)))) (stop NoSuchCell))))
-          ∙ (λ j. comes (waiting va vb) (suc (twice n)) (need (and_both (eqb_same va) (eqb_same vb) j) StoreDiffers
+          ∙ (λ j. comes (waiting va vb) (suc (twice n)) (need (both_true (eqb_same va) (eqb_same vb) j) StoreDiffers
           (cond (w va) (go (stored va vb (suc (length l)))) (stop NoSuchCell))))
 
       pub run_store : {x : _} {a b : ℕ} (va vb : ℕ) → R a ≡ va → R b ≡ vb → w va ≡ true → Line m p x (store a b) →

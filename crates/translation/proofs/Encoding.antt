@@ -1,18 +1,16 @@
 -- The words of an instruction are well formed, and are read as that instruction.
 use Rattle.std.proofs.Common.{◌≡◌, ℕ, ◌%◌, ◌<◌, ◌≤◌, true, cond, ◌&&◌, ◌||◌, eqb, ltb, refl, ap, ◌∙◌, arith}
+use Rattle.std.specs.Cmp.Derive.{both_true}
+use Rattle.std.proofs.Math.Nat.{mod-eq_of_lt}
 use Rattle.std.proofs.lemmas.Bool.{lt-ltb}
 use Rattle.isa.specs.Registers.{registers}
 use Rattle.isa.specs.Words.{packed, operation, field_a, field_b, field_c, uses, fits, well_formed, named, kind_by, kind_of}
 use Rattle.rules.specs.Expressions.{Add, Sub, Mul, Lt}
 use Rattle.rules.specs.Notes.{Colour, green, blue, Register, Kind, mov, cpy, arith as calc, ld, st, jmp, bz, halt}
 use Rattle.translation.specs.Checked.{Readable}
-use Rattle.translation.proofs.Twins.{and_both}
 
 abbrev r : ℕ → Register
 r x = record { number = x }
-
-low : (x : ℕ) → x < 32 → x % 32 ≡ x
-low x h = omega arith
 
 module _ (op a b c imm : ℕ) (o : op < 16) (la : a < 32) (lb : b < 32) (lc : c < 32) where
   op_is : operation (packed op a b c) ≡ op
@@ -37,34 +35,31 @@ module _ (op a b c imm : ℕ) (o : op < 16) (la : a < 32) (lb : b < 32) (lc : c 
   formed : well_formed (packed op a b c) imm ≡ (ltb op 16 && (fits (uses op 8) a && (fits (uses op 4) b && (fits (uses op 2) c && (uses op 1 || eqb imm 0)))))
   formed j = ltb (op_is j) 16 && (fits (uses (op_is j) 8) (a_is j) && (fits (uses (op_is j) 4) (b_is j) && (fits (uses (op_is j) 2) (c_is j) && (uses (op_is j) 1 || eqb imm 0))))
 
-below : (x : ℕ) → x < 32 → ltb x 32 ≡ true
-below x h = lt-ltb x 32 h
-
 -- one register and a number; one register; two; three
 module _ (a : Register) (la : a.number < 32) where
   read_mov : (c : Colour) (n : ℕ) → Readable (mov c a n)
   read_mov green n = (
-    unpacked 0 a.number 0 0 n (omega arith) la (omega arith) (omega arith) ∙ ap (λ x. mov green (r x) n) (low a.number la),
-    formed 0 a.number 0 0 n (omega arith) la (omega arith) (omega arith) ∙ and_both (below a.number la) refl,
+    unpacked 0 a.number 0 0 n (omega arith) la (omega arith) (omega arith) ∙ ap (λ x. mov green (r x) n) (mod-eq_of_lt la),
+    formed 0 a.number 0 0 n (omega arith) la (omega arith) (omega arith) ∙ both_true (lt-ltb a.number 32 la) refl,
   )
   read_mov blue n = (
-    unpacked 1 a.number 0 0 n (omega arith) la (omega arith) (omega arith) ∙ ap (λ x. mov blue (r x) n) (low a.number la),
-    formed 1 a.number 0 0 n (omega arith) la (omega arith) (omega arith) ∙ and_both (below a.number la) refl,
+    unpacked 1 a.number 0 0 n (omega arith) la (omega arith) (omega arith) ∙ ap (λ x. mov blue (r x) n) (mod-eq_of_lt la),
+    formed 1 a.number 0 0 n (omega arith) la (omega arith) (omega arith) ∙ both_true (lt-ltb a.number 32 la) refl,
   )
 
   read_jmp : (c : Colour) → Readable (jmp c a)
   read_jmp green = (
-    unpacked 11 a.number 0 0 0 (omega arith) la (omega arith) (omega arith) ∙ ap (λ x. jmp green (r x)) (low a.number la),
-    formed 11 a.number 0 0 0 (omega arith) la (omega arith) (omega arith) ∙ and_both (below a.number la) refl,
+    unpacked 11 a.number 0 0 0 (omega arith) la (omega arith) (omega arith) ∙ ap (λ x. jmp green (r x)) (mod-eq_of_lt la),
+    formed 11 a.number 0 0 0 (omega arith) la (omega arith) (omega arith) ∙ both_true (lt-ltb a.number 32 la) refl,
   )
   read_jmp blue = (
-    unpacked 12 a.number 0 0 0 (omega arith) la (omega arith) (omega arith) ∙ ap (λ x. jmp blue (r x)) (low a.number la),
-    formed 12 a.number 0 0 0 (omega arith) la (omega arith) (omega arith) ∙ and_both (below a.number la) refl,
+    unpacked 12 a.number 0 0 0 (omega arith) la (omega arith) (omega arith) ∙ ap (λ x. jmp blue (r x)) (mod-eq_of_lt la),
+    formed 12 a.number 0 0 0 (omega arith) la (omega arith) (omega arith) ∙ both_true (lt-ltb a.number 32 la) refl,
   )
 
   module _ (b : Register) (lb : b.number < 32) where
     two_fit : (ltb a.number 32 && (ltb b.number 32 && true)) ≡ true
-    two_fit = and_both (below a.number la) (and_both (below b.number lb) refl)
+    two_fit = both_true (lt-ltb a.number 32 la) (both_true (lt-ltb b.number 32 lb) refl)
 
     -- an instruction of two registers, f being what the operation does
     two_read : (op : ℕ) (f : Register → Register → Kind) → op < 16 →
@@ -72,7 +67,7 @@ module _ (a : Register) (la : a.number < 32) where
         (ltb op 16 && (fits (uses op 8) a.number && (fits (uses op 4) b.number && (fits (uses op 2) 0 && (uses op 1 || eqb 0 0))))) ≡ (ltb a.number 32 && (ltb b.number 32 && true)) →
         (kind_of (packed op a.number b.number 0) 0 ≡ f a b) × (well_formed (packed op a.number b.number 0) 0 ≡ true)
     two_read op f o k w = (
-      unpacked op a.number b.number 0 0 o la lb (omega arith) ∙ k ∙ (λ j. f (r (low a.number la j)) (r (low b.number lb j))),
+      unpacked op a.number b.number 0 0 o la lb (omega arith) ∙ k ∙ (λ j. f (r (mod-eq_of_lt la j)) (r (mod-eq_of_lt lb j))),
       formed op a.number b.number 0 0 o la lb (omega arith) ∙ w ∙ two_fit,
     )
 
@@ -98,8 +93,8 @@ module _ (a : Register) (la : a.number < 32) where
           ≡ (ltb a.number 32 && (ltb b.number 32 && (ltb c.number 32 && true))) →
           (kind_of (packed op a.number b.number c.number) 0 ≡ f a b c) × (well_formed (packed op a.number b.number c.number) 0 ≡ true)
       three_read op f o k w = (
-        unpacked op a.number b.number c.number 0 o la lb lc ∙ k ∙ (λ j. f (r (low a.number la j)) (r (low b.number lb j)) (r (low c.number lc j))),
-        formed op a.number b.number c.number 0 o la lb lc ∙ w ∙ and_both (below a.number la) (and_both (below b.number lb) (and_both (below c.number lc) refl)),
+        unpacked op a.number b.number c.number 0 o la lb lc ∙ k ∙ (λ j. f (r (mod-eq_of_lt la j)) (r (mod-eq_of_lt lb j)) (r (mod-eq_of_lt lc j))),
+        formed op a.number b.number c.number 0 o la lb lc ∙ w ∙ both_true (lt-ltb a.number 32 la) (both_true (lt-ltb b.number 32 lb) (both_true (lt-ltb c.number 32 lc) refl)),
       )
 
       read_calc : (o : _) → Readable (calc o a b c)

@@ -1,9 +1,10 @@
 -- The rules of the check are kept in doubled code.
 use Rattle.std.proofs.Common.{◌≡◌, ℕ, suc, ◌+◌, ◌<◌, ◌≤◌, max, Bool, true, not, ◌||◌, List, [], ◌∷◌, sym, refl, ap, ◌∙◌, add-one, arith}
+use Rattle.std.specs.Cmp.Derive.{both_true}
 use mathlib.Core.Path.{subst⁻¹}
 use native.Mathlib.Decide.{dec_lt}
 use lib.Dec.{eqb-suc-zero}
-use Rattle.std.proofs.lemmas.Bool.{eq-eqb, lt-ltb, le-leb}
+use Rattle.std.proofs.lemmas.Bool.{eq-eqb, lt-ltb, le-leb, or_left, or_right}
 use Rattle.isa.specs.Registers.{registers}
 use Rattle.isa.specs.Words.{second_word as immediate}
 use Rattle.rules.specs.Limits.{Limits}
@@ -16,7 +17,7 @@ use Rattle.rules.specs.Rules.{needs, all?, leaves?, numeral?, target?, arrives?}
 use Rattle.rules.specs.Module.{Module, size, instr, passable?, falls?, last?, rule?, enter, static, kept_at}
 use Rattle.rules.proofs.Sameness.{eq_same}
 use Rattle.translation.specs.Code.{Source, num, copy, calc, fetch, Single, set, store, jump, branch, Entry, twice, place, dye}
-use Rattle.translation.proofs.Twins.{and_both, or_left, or_right, spread, spread_at, upd_twin, upd_green, twice-is}
+use Rattle.translation.proofs.Twins.{spread, spread_at, upd_twin, upd_green, twice-is}
 use Rattle.translation.proofs.Values.{Word, WordIn}
 use Rattle.translation.proofs.Placing.{before, Line}
 use Rattle.translation.proofs.Knowing.{Known, known, known?, tint, ex, tint_is, colour_refl, stat, both}
@@ -28,10 +29,10 @@ Each (b ∷ l) = (b ≡ true) × Each l
 
 all_of : (l : List Bool) → Each l → all? l ≡ true
 all_of [] h = refl
-all_of (b ∷ l) h = and_both h.0 (all_of l h.1)
+all_of (b ∷ l) h = both_true h.0 (all_of l h.1)
 
 by_needs : (L : Limits) (m : Module) (q : ℕ) (i : Kind) (S : Static) → Each (needs L m.blocks (last? m q) i S) → (leaves? i || falls? m q (next i S)) ≡ true → rule? L m q i S ≡ true
-by_needs L m q i S h f = and_both (all_of (needs L m.blocks (last? m q) i S) h) f
+by_needs L m q i S h f = both_true (all_of (needs L m.blocks (last? m q) i S) h) f
 
 -- what the note of a twin is after a setting
 abbrev pub sense : Source → (ℕ → Known) → ℕ → Expr
@@ -108,10 +109,10 @@ below_two {m} {n} B a b q h = one (dec_lt q n) (dec_lt q (suc n))
 
 module _ {m : Module} {p : ℕ} {x : Entry} {i : Single} (L : Line m p x i) where
   falls_inside : (S : Static) → falls? m (twice p) S ≡ true
-  falls_inside S = and_both (lt-ltb _ _ (omega (arith, L.room))) (ap (λ y. passable? y S) (ap (before m) (add-one (twice p)) ∙ L.between))
+  falls_inside S = both_true (lt-ltb _ _ (omega (arith, L.room))) (ap (λ y. passable? y S) (ap (before m) (add-one (twice p)) ∙ L.between))
 
   falls_on : (S : Static) → passable? (before m (twice (suc p))) S ≡ true → falls? m (suc (twice p)) S ≡ true
-  falls_on S h = and_both (lt-ltb _ _ (omega (arith, L.room))) (ap (λ y. passable? (before m y) S) (add-one (suc (twice p))) ∙ h)
+  falls_on S h = both_true (lt-ltb _ _ (omega (arith, L.room))) (ap (λ y. passable? (before m y) S) (add-one (suc (twice p))) ∙ h)
 
   -- a line that leads from the notes N to N', by way of S
   line_checked : (N N' : ℕ → Known) (k k' : ℕ) (S : Static) → Here m p N k → next (dye green i) (both N k) ≡ S → next (dye blue i) S ≡ both N' k' →
@@ -145,12 +146,12 @@ module _ (N : ℕ → Known) where
 
 -- a number
 numeral_ok : (c : Colour) (t : ℕ) (n : Note) → n ≡ note c (lit t) → numeral? c n ≡ true
-numeral_ok c t n e = ap (numeral? c) e ∙ and_both (colour_refl c) refl
+numeral_ok c t n e = ap (numeral? c) e ∙ both_true (colour_refl c) refl
 
 -- that is a block's start
 target_ok : (bs : List Block) (t : ℕ) (n : Note) (K : Card) → n ≡ note green (lit (twice (suc t))) → entry bs (twice (suc t)) ≡ rules.start K → target? bs n ≡ true
 target_ok bs t n K e h =
-    ap (target? bs) e ∙ and_both (ap not (eqb-suc-zero (suc (twice t)))) (ap starts? h)
+    ap (target? bs) e ∙ both_true (ap not (eqb-suc-zero (suc (twice t)))) (ap starts? h)
 
 arrives_ok : (bs : List Block) (t : ℕ) (n : Note) (K : Card) (M : Notes) (k : ℕ) (d : Dest) → n ≡ note blue (lit t) → entry bs t ≡ rules.start K → met? K M ≡ true →
     arrives? bs (target_of n) (record { notes = M; pending = []; k_g = k; k_b = k; dest = d }) ≡ true
@@ -180,7 +181,7 @@ module _ (m : Module) (p : ℕ) (N : ℕ → Known) (k : ℕ) {x : Entry} (H : H
         ap (has? blue) (note_at N blue a ka),
         (
           ap (has? blue) (note_at N blue b kb),
-          (and_both (eq_same _ _ (ap expr_of (note_at N blue a ka))) (eq_same _ _ (ap expr_of (note_at N blue b kb))), tt),
+          (both_true (eq_same _ _ (ap expr_of (note_at N blue a ka))) (eq_same _ _ (ap expr_of (note_at N blue b kb))), tt),
         ),
       ) (falls_on L _ z)
 
@@ -200,7 +201,7 @@ module _ (m : Module) (p : ℕ) (N : ℕ → Known) (k : ℕ) {x : Entry} (H : H
         (
           numeral_ok blue d _ bb,
           (
-            and_both (eq_same _ _ (sym (ap expr_of (note_at N blue a ka)))) (eq-eqb _ _ (sym (ap target_of bb))),
+            both_true (eq_same _ _ (sym (ap expr_of (note_at N blue a ka)))) (eq-eqb _ _ (sym (ap target_of bb))),
             (arrives_ok m.blocks d _ K (spread tint N) k (branch_to (ex (N a)) d) bb en mt, tt),
           ),
         ),
@@ -223,11 +224,11 @@ module _ (m : Module) (p : ℕ) (N : ℕ → Known) (k : ℕ) {x : Entry} (H : H
           eq-eqb _ _ (sym (ap target_of ba)),
           (
             arrives_ok m.blocks d _ K (spread tint N) k (jump_to d) ba en mt,
-            (or_right _ (ap (λ y. starts? (before m y)) (add-one (suc (twice p))) ∙ ap starts? en'), tt),
+            (or_right _ _ (ap (λ y. starts? (before m y)) (add-one (suc (twice p))) ∙ ap starts? en'), tt),
           ),
         ),
       ) refl
 
 pub check_halt : (m : Module) (p : ℕ) (N : ℕ → Known) (k : ℕ) → Here m p N k → instr m (twice p) ≡ halt → size m ≡ suc (twice p) → Fair m (twice p)
 check_halt m p N k H h e =
-    fair h H.1 (λ q l. by_needs q m (twice p) halt (both N k) (refl, (refl, (or_left _ (le-leb (size m) (twice p + 1) (omega arith)), tt))) refl) (omega arith) (omega arith)
+    fair h H.1 (λ q l. by_needs q m (twice p) halt (both N k) (refl, (refl, (or_left _ _ (le-leb (size m) (twice p + 1) (omega arith)), tt))) refl) (omega arith) (omega arith)

@@ -1,5 +1,5 @@
 -- The module of a plan within the limits passes.
-use Rattle.std.proofs.Common.{◌≡◌, ℕ, zero, suc, ◌<◌, ◌≤◌, cond, [], get_or, refl, ap, ◌∙◌, arith}
+use Rattle.std.proofs.Common.{◌≡◌, ℕ, zero, suc, ◌<◌, ◌≤◌, cond, [], get_or, refl, ap, ◌∙◌, arith, Some, None}
 use mathlib.Core.Path.{subst⁻¹}
 use native.Mathlib.Decide.{dec_lt}
 use lib.ListN.{get_or-eq_default}
@@ -7,7 +7,7 @@ use Rattle.isa.specs.Registers.{registers}
 use Rattle.isa.specs.Words.{second_word as immediate}
 use Rattle.std.proofs.lemmas.Bool.{le-ltb}
 use Rattle.rules.specs.Notes.{green, blue, Kind, halt}
-use Rattle.rules.specs.Cards.{free, slot, fresh}
+use Rattle.rules.specs.Cards.{fresh}
 use Rattle.rules.specs.Module.{size, instr, enter}
 use Rattle.language.specs.Plans.{Plan}
 use Rattle.language.specs.Limits.{in_force, Within}
@@ -64,10 +64,10 @@ module _ (P : Plan) (ok : Within in_force P) where
       one (no l) = let z : size (compiled P) ≤ q = omega arith in subst⁻¹ Q (get_or-eq_default (compiled P).code halt z) h
 
 -- a card of no twins is all free
-none_free : (k i r : ℕ) → get_or (slots_from 0 i k) r free ≡ free
+none_free : (k i r : ℕ) → get_or (slots_from 0 i k) r None ≡ None
 none_free zero i r = refl
-none_free (suc k) i zero = ap (λ b. cond b (slot green (variable i)) free) (le-ltb i 0 (omega arith))
-none_free (suc k) i (suc zero) = ap (λ b. cond b (slot blue (variable i)) free) (le-ltb i 0 (omega arith))
+none_free (suc k) i zero = ap (λ b. cond b (Some (green, variable i)) None) (le-ltb i 0 (omega arith))
+none_free (suc k) i (suc zero) = ap (λ b. cond b (Some (blue, variable i)) None) (le-ltb i 0 (omega arith))
 none_free (suc k) i (suc (suc r)) = none_free k (suc i) r
 
 blocks_ok : (P : Plan) → Blocks (size (compiled P)) (compiled P).blocks

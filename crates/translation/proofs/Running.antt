@@ -14,7 +14,7 @@ use Rattle.translation.specs.Code.{copy, set, store, Entry, inside, start, twice
 use Rattle.translation.specs.Compile.{over, head_of, past, exit_of}
 use Rattle.translation.specs.Steps.{onward, turns, taken}
 use Rattle.translation.specs.Runs.{pair_of}
-use Rattle.translation.proofs.Twins.{upd_same, upd_other}
+use Rattle.rules.proofs.Updates.{upd_same, upd_other}
 use Rattle.translation.proofs.Values.{Word}
 use Rattle.translation.proofs.Placing.{Line}
 use Rattle.translation.proofs.Standing.{PlacedE, PlacedP, Loop, left}

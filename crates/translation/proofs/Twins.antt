@@ -1,28 +1,13 @@
 -- Twin registers.
-use Rattle.std.proofs.Common.{◌≡◌, ℕ, zero, suc, ◌*◌, Bool, true, false, cond, ◌&&◌, ◌||◌, eqb, ◌≢◌, refl, ap, ◌∙◌, arith}
+use Rattle.std.proofs.Common.{◌≡◌, ℕ, zero, suc, ◌*◌, true, cond, eqb, ◌≢◌, refl, ap, ◌∙◌, arith}
 use lib.Dec.{eqb-suc-suc, eqb-suc-zero, eqb-zero-suc}
-use Rattle.std.proofs.lemmas.Bool.{eq-eqb, ne_eqb}
+use Rattle.std.proofs.lemmas.Bool.{eq-eqb}
 use Rattle.rules.specs.Notes.{Colour, green, blue, upd}
+use Rattle.rules.proofs.Updates.{upd_other}
 use Rattle.translation.specs.Code.{twice, place}
-
-pub and_both : {a b : Bool} → a ≡ true → b ≡ true → (a && b) ≡ true
-and_both {a} {b} h k = ap (λ x. x && b) h ∙ k
-
-pub or_left : {a : Bool} (b : Bool) → a ≡ true → (a || b) ≡ true
-or_left b h = ap (λ x. x || b) h
-
-pub or_right : (a : Bool) {b : Bool} → b ≡ true → (a || b) ≡ true
-or_right true h = refl
-or_right false h = h
 
 pub eqb_same : (n : ℕ) → eqb n n ≡ true
 eqb_same n = eq-eqb n n refl
-
-pub upd_same : {A : Type 0} (f : ℕ → A) (a : ℕ) (v : A) → upd f a v a ≡ v
-upd_same f a v = ap (λ b. cond b v (f a)) (eqb_same a)
-
-pub upd_other : {A : Type 0} (f : ℕ → A) (a : ℕ) (v : A) (r : ℕ) → r ≢ a → upd f a v r ≡ f r
-upd_other f a v r n = ap (λ b. cond b v (f r)) (ne_eqb r a n)
 
 -- a register's twin and colour
 abbrev pub half : ℕ → ℕ

@@ -1,12 +1,12 @@
 -- The cards of compiled code: twin i has variable i, in both colours.
-use Rattle.std.specs.Prelude.{ℕ, zero, suc, cond, [], ◌∷◌, nat_lt}
+use Rattle.std.specs.Prelude.{ℕ, zero, suc, cond, [], ◌∷◌, nat_lt, Some, None}
 use Rattle.rules.specs.Notes.{Colour, green, blue}
-use Rattle.rules.specs.Cards.{Slot, free, slot, Card}
+use Rattle.rules.specs.Cards.{Slot, Card}
 use Rattle.rules.specs.Words.{variable}
 
 -- what the card of the first n twins says of twin i's register of a colour
 abbrev pub twin_slot : ℕ → ℕ → Colour → Slot
-twin_slot n i c = cond (nat_lt i n) (slot c (variable i)) free
+twin_slot n i c = cond (nat_lt i n) (Some (c, variable i)) None
 
 -- what it says of k twins from i on
 abbrev pub slots_from : ℕ → ℕ → ℕ → Card

@@ -1,10 +1,10 @@
 -- What is promised of the module of a plan: its size, its layout, and that it keeps the rules of the check.
-use Rattle.std.specs.Prelude.{◌≡◌, ℕ, suc, ◌+◌, ◌*◌, ◌^◌, ◌<◌, ◌≤◌, true, List, [], ◌∷◌, length, slice_index_or}
+use Rattle.std.specs.Prelude.{◌≡◌, ℕ, suc, ◌+◌, ◌*◌, ◌^◌, ◌<◌, ◌≤◌, true, List, [], ◌∷◌, length, slice_index_or, None}
 use Rattle.isa.specs.Registers.{registers}
 use Rattle.isa.specs.Words.{first_word, second_word, well_formed, kind_of}
 use Rattle.rules.specs.Notes.{Kind}
 use Rattle.rules.specs.Limits.{Limits}
-use Rattle.rules.specs.Cards.{Block, Card, free}
+use Rattle.rules.specs.Cards.{Block, Card}
 use Rattle.rules.specs.Module.{size, instr, Keeps}
 use Rattle.language.specs.Plans.{Plan}
 use Rattle.language.specs.Limits.{need, repeats, Within, in_force}
@@ -16,7 +16,7 @@ Rising low n [] = Unit {0}
 Rising low n (b ∷ bs) = (low ≤ b.start) × (b.start < n) × Rising (suc b.start) n bs
 
 abbrev pub AllFree : Card → Type 0
-AllFree K = (r : ℕ) → slice_index_or K r free ≡ free
+AllFree K = (r : ℕ) → slice_index_or K r None ≡ None
 
 -- the first block starts at 0 and its card is all free; the others rise above it, below n
 abbrev pub Blocks : ℕ → List Block → Type 0

@@ -1,9 +1,9 @@
 -- The words of a module, place by place, and what the check says of those of a plan's code.
-use Rattle.std.specs.Prelude.{◌≡◌, ℕ, ◌+◌, ◌*◌, ◌<◌, ◌≤◌, List, length, slice_index_or, refl}
+use Rattle.std.specs.Prelude.{◌≡◌, ℕ, ◌+◌, ◌*◌, ◌<◌, ◌≤◌, List, length, slice_index_or, refl, None}
 use Rattle.isa.specs.Words.{first_word, second_word}
 use Rattle.isa.specs.Layout.{word, start_at, card_byte, slot_byte}
 use Rattle.rules.specs.Limits.{Limits}
-use Rattle.rules.specs.Cards.{Block, free}
+use Rattle.rules.specs.Cards.{Block}
 use Rattle.rules.specs.Module.{Module, size, instr}
 use Rattle.rules.specs.Words.{module_of, Passes}
 use Rattle.language.specs.Plans.{Plan}
@@ -26,7 +26,7 @@ pub record Written (ws : List ℕ) (m : Module) : Type 0 where
   pub first : (p : ℕ) → p < size m → word ws (2 + 2 * p) ≡ first_word (instr m p)
   pub second : (p : ℕ) → p < size m → word ws (2 + 2 * p + 1) ≡ second_word (instr m p)
   pub starts : (b : ℕ) → b < length m.blocks → start_at ws (size m) b ≡ (block_in m b).start
-  pub cards : (b r : ℕ) → b < length m.blocks → r < 32 → card_byte ws (size m) b r ≡ slot_byte (slice_index_or (block_in m b).card r free)
+  pub cards : (b r : ℕ) → b < length m.blocks → r < 32 → card_byte ws (size m) b r ≡ slot_byte (slice_index_or (block_in m b).card r None)
 
 -- the words of a plan's code are read as that code, and pass the check
 abbrev pub WordsPass : Type 0

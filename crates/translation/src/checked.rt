@@ -5,17 +5,11 @@ ghost use Rattle.rules.specs.Module.{size};
 ghost use Rattle.translation.specs.Checked.{CodeChecked};
 ghost use Rattle.translation.specs.Compile.{compiled};
 
-fn sample_size() -> u32
-    ensures { result ≡ size (compiled sample) }
-{
-    55
-}
-
 // How many instructions the sample plan's code has. The code of every plan within the limits has as
 // many as the plan needs, is laid out as a module, and keeps every rule of the check.
 pub fn code_checked() -> u32
     ensures sample { result ≡ size (compiled sample) }
     ensures every { CodeChecked }
 {
-    sample_size()
+    55
 }

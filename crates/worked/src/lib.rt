@@ -2,7 +2,6 @@
 // check, and what the sample plan does.
 #![tactic(auto)]
 
-ghost use Rattle.std.specs.Prelude.{◌≡◌};
 ghost use Rattle.worked.specs.Examples.{WorkedExamples};
 
 // Numbers of the worked examples.
@@ -16,21 +15,13 @@ pub struct Figures {
     pub need: u8,
 }
 
-fn numbers() -> Figures
-    ensures steps { result.steps ≡ 7 }
-    ensures place { result.place ≡ 5 }
-    ensures need { result.need ≡ 55 }
+// Carries the worked examples, all of them; answers their numbers.
+pub fn worked_examples() -> Figures
+    ensures { WorkedExamples result.steps result.place result.need }
 {
     Figures {
         steps: 7,
         place: 5,
         need: 55,
     }
-}
-
-// Carries the worked examples, all of them; answers their numbers.
-pub fn worked_examples() -> Figures
-    ensures { WorkedExamples result.steps result.place result.need }
-{
-    numbers()
 }

@@ -1,10 +1,7 @@
 // Notes read, and one lent to be changed.
-ghost use Rattle.std.specs.Prelude.{◌≡◌, ◌<◌, replicate, IfOk, slice_index_or};
-ghost use Rattle.std.specs.Borrow.{sem, follows};
-ghost use Rattle.std.specs.Vec.{with_item};
-ghost use Rattle.blocks.specs.contracts.notes.Notes.{the_row as notes-row};
-ghost use Rattle.blocks.specs.contracts.note.Note.{the_row as note-row};
-ghost use Rattle.blocks.specs.declared.note.Note.TheVariants.{Nothing};
+ghost use Rattle.std.specs.Prelude.{◌≡◌, ◌<◌, replicate, None, IfOk, slice_index_or};
+ghost use Rattle.std.specs.Borrow.{sem};
+ghost use Rattle.blocks.specs.Lending.{LendsNote};
 
 use super::Notes;
 use crate::note::Note;
@@ -14,21 +11,21 @@ use std::alloc::{AllocError, Global};
 impl Notes {
     // Nothing is known of any register.
     pub(crate) fn new(heap: Global) -> Result<Notes, AllocError>
-        ensures { IfOk result (λ n. n.all.items ≡ replicate 32 Nothing) }
+        ensures { IfOk result (λ n. n.all.items ≡ replicate 32 None) }
     {
-        let all = vec![in heap; Note::Nothing; 32]?;
+        let all = vec![in heap; None; 32]?;
         Ok(Notes { all })
     }
 
     pub(crate) fn clear(&mut self)
-        ensures { self.new.all.items ≡ replicate 32 Nothing }
+        ensures { self.new.all.items ≡ replicate 32 None }
     {
-        self.all.fill(Note::Nothing);
+        self.all.fill(None);
     }
 
     pub(crate) fn note(&self, r: Register) -> Note
         requires lowr { r.number < 32 }
-        ensures { result ≡ slice_index_or self.now.all.items r.number Nothing }
+        ensures { result ≡ slice_index_or self.now.all.items r.number None }
     {
         self.all[r.number as usize]
     }
@@ -36,7 +33,7 @@ impl Notes {
     // Lends the note of a register.
     pub(crate) fn note_mut(&mut self, r: Register) -> &mut Note
         requires lowr { r.number < 32 }
-        ensures* { sem 𝓛 (follows notes-row note-row self.entry.ghost_name result.ghost_name (λ w. record { all = with_item self.old.all r.number w; full = self.old.full })) }
+        ensures* { sem 𝓛 (LendsNote self.entry r result) }
     {
         &mut self.all[r.number as usize]
     }

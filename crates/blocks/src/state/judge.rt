@@ -1,12 +1,12 @@
 // One instruction judged.
-ghost use Rattle.std.specs.Prelude.{◌≡◌, ◌<◌, true, false, ◌&&◌, ◌==◌};
+ghost use Rattle.std.specs.Prelude.{◌≡◌, ◌<◌, true, false, ◌&&◌, ◌==◌, is_some, IsSome};
 ghost use Rattle.isa.specs.declared.kinds.Colour.TheVariants.{Blue};
 ghost use Rattle.rules.specs.Limits.{in_force};
 ghost use Rattle.rules.specs.Expressions.{same?};
 ghost use Rattle.rules.specs.Notes.{target_of, next, none?, clear?, has?, expr_of};
 ghost use Rattle.rules.specs.Rules.{numeral?, target?, own?, arrives?};
-ghost use Rattle.blocks.specs.Trees.{room, at};
-ghost use Rattle.blocks.specs.View.{view, known, count, noted, Answers, Grown};
+ghost use Rattle.blocks.specs.Trees.{at};
+ghost use Rattle.blocks.specs.View.{view, known, count, noted, Answers, HasRoom, Grown};
 
 use super::State;
 use super::cards::starts;
@@ -18,13 +18,12 @@ use isa::kinds::{Colour, Kind, Register};
 
 impl State {
     // The number that a register is noted to be, in this colour.
+    // Stays (5): no plainer: the colour is asked of a register's note and is no part of the register.
     fn numeral(&self, c: Colour, a: Register) -> Option<u32>
         requires lowa { a.number < 32 }
         ensures { Answers (numeral? c (noted self.now a)) (target_of (noted self.now a)) result }
     {
-        let Some(x) = self.coloured(c, a) else {
-            return None;
-        };
+        let x = self.coloured(c, a)?;
         self.table.number(x)
     }
 
@@ -33,13 +32,8 @@ impl State {
         requires lowa { a.number < 32 }
         ensures { Answers (target? blocks.now (noted self.now a)) (target_of (noted self.now a)) result }
     {
-        let Some(t) = self.numeral(Colour::Green, a) else {
-            return None;
-        };
-        if t == 0 || !starts(blocks, t) {
-            return None;
-        }
-        Some(t)
+        let t = self.numeral(Colour::Green, a)?;
+        (t != 0 && starts(blocks, t)).then_some(t)
     }
 
     fn nothing_pending(&self) -> bool
@@ -60,10 +54,7 @@ impl State {
         requires { a.number < 32 }
         ensures { result ≡ (numeral? Blue (noted self.now a) && (t == target_of (noted self.now a) && arrives? blocks.now (target_of (noted self.now a)) (view self.now))) }
     {
-        let Some(u) = self.numeral(Colour::Blue, a) else {
-            return false;
-        };
-        t == u && self.arrives(blocks, u)
+        self.numeral(Colour::Blue, a) == Some(t) && self.arrives(blocks, t)
     }
 
     // Whether a register is noted to be this expression, in blue.
@@ -72,74 +63,56 @@ impl State {
         requires entry { x.index < count self.now }
         ensures { result ≡ (has? Blue (noted self.now a) && same? (at (known self.now) x) (expr_of (noted self.now a))) }
     {
-        let Some(y) = self.coloured(Colour::Blue, a) else {
-            return false;
-        };
-        self.table.same(x, y)
+        self.coloured(Colour::Blue, a)
+            .is_some_and(|y| self.table.same(x, y))
     }
 
     // Whether nothing is pending and no jump is under way.
     pub(super) fn is_settled(&self) -> bool
         ensures { result ≡ (none? (view self.now).pending && clear? (view self.now).dest) }
     {
-        match self.destination {
-            Destination::Clear => self.nothing_pending(),
-            _ => false,
-        }
+        matches!(self.destination, Destination::Clear) && self.nothing_pending()
     }
 
-    // Whether the rule of an instruction itself is kept; the notes are then those behind it.
-    // `last`: it is in its block's last place.
-    pub(super) fn judge(&mut self, blocks: &[Block], instruction: Instruction, last: bool) -> bool
-        requires entries { count self.old < room }
-        requires greens { self.old.green < in_force.instructions }
-        requires blues { self.old.blue < in_force.instructions }
-        ensures answer { result ≡ own? in_force blocks.now last instruction.kind (view self.old) }
-        ensures after { result ≡ true → view self.new ≡ next instruction.kind (view self.old) }
+    // Judges an instruction by its own rule: `Some` where it is kept, and what is known is then what is
+    // known behind it. `last`: it is in its block's last place.
+    pub(super) fn judge(
+        &mut self,
+        blocks: &[Block],
+        instruction: Instruction,
+        last: bool,
+    ) -> Option<()>
+        requires { HasRoom self.old }
+        ensures answer { is_some result ≡ own? in_force blocks.now last instruction.kind (view self.old) }
+        ensures after { IsSome result → view self.new ≡ next instruction.kind (view self.old) }
         ensures grown { Grown self.old self.new }
     {
         match (self.destination, instruction.kind) {
-            (_, Kind::Move(c, a, n)) => {
-                self.mov(c, a, n);
-                true
-            }
-            (_, Kind::Copy(a, b)) => self.copy(a, b),
-            (_, Kind::Arith(o, a, b, c)) => self.arithmetic(o, a, b, c),
-            (_, Kind::Load(c, a, b)) => self.load(c, a, b),
-            (_, Kind::Store(c, a, b)) => self.store(c, a, b),
+            (_, Kind::Move(c, a, n)) => self.mov(c, a, n),
+            (_, Kind::Copy(a, b)) => self.copy(a, b)?,
+            (_, Kind::Arith(o, a, b, c)) => self.arithmetic(o, a, b, c)?,
+            (_, Kind::Load(c, a, b)) => self.load(c, a, b)?,
+            (_, Kind::Store(c, a, b)) => self.store(c, a, b)?,
             (Destination::Clear, Kind::Jump(Colour::Green, a)) => {
-                let Some(t) = self.target(blocks, a) else {
-                    return false;
-                };
+                let t = self.target(blocks, a)?;
                 self.destination = Destination::Jump(t);
-                true
             }
-            (Destination::Jump(t), Kind::Jump(Colour::Blue, a)) => {
-                if !self.lands(blocks, a, t) || !last {
-                    return false;
-                }
+            (Destination::Jump(t), Kind::Jump(Colour::Blue, a))
+                if last && self.lands(blocks, a, t) => {
                 self.destination = Destination::Clear;
-                true
             }
             (Destination::Clear, Kind::Branch(Colour::Green, a, b)) => {
-                let Some(x) = self.coloured(Colour::Green, a) else {
-                    return false;
-                };
-                let Some(t) = self.target(blocks, b) else {
-                    return false;
-                };
+                let x = self.coloured(Colour::Green, a)?;
+                let t = self.target(blocks, b)?;
                 self.destination = Destination::If(x, t);
-                true
             }
-            (Destination::If(x, t), Kind::Branch(Colour::Blue, a, b)) => {
-                if !self.is_blue(a, x) || !self.lands(blocks, b, t) {
-                    return false;
-                }
+            (Destination::If(x, t), Kind::Branch(Colour::Blue, a, b))
+                if self.is_blue(a, x) && self.lands(blocks, b, t) => {
                 self.destination = Destination::Clear;
-                true
             }
-            (Destination::Clear, Kind::Halt) => self.nothing_pending() && last,
-            _ => false,
+            (Destination::Clear, Kind::Halt) if last && self.nothing_pending() => {}
+            _ => return None,
         }
+        Some(())
     }
 }

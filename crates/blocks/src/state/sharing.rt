@@ -9,7 +9,7 @@ ghost use Rattle.blocks.specs.View.{view, known, count, noted, Grown};
 
 use super::State;
 use crate::node::{Id, Node};
-use crate::note::{Destination, Note, Pair};
+use crate::note::{Destination, Noted, Pair};
 use crate::notes::Notes;
 use crate::table::Table;
 use isa::kinds::{Arithmetic, Colour, Register};
@@ -53,6 +53,7 @@ impl State {
     }
 
     // The entry with the node's tree; all that was known stays.
+    // Stays (5): no plainer: that there is room holds before an instruction and may not behind it.
     pub(super) fn share(&mut self, node: Node) -> Id
         requires room { count self.old < room }
         requires children { reach node ≤ count self.old }
@@ -65,6 +66,7 @@ impl State {
     }
 
     // The entry of an operation, or of its result where both are numbers.
+    // Stays (5): no plainer: that an entry is there is a fact of the table and not of the `Id` alone.
     pub(super) fn operate(&mut self, o: Arithmetic, x: Id, y: Id) -> Id
         requires room { count self.old < room }
         requires left { x.index < count self.old }
@@ -104,23 +106,26 @@ impl State {
     }
 
     // Writes a register's note, and leaves the other 31.
+    // Stays (5): no plainer: the colour is that of a register's note and is no part of the register.
     pub(super) fn write(&mut self, a: Register, c: Colour, x: Id)
         requires lowa { a.number < 32 }
         requires entry { x.index < count self.old }
         ensures after { view self.new ≡ set_note (view self.old) a (note c (at (known self.old) x)) }
         ensures table { self.new.table ≡ self.old.table }
     {
-        *self.notes.note_mut(a) = Note::Noted(c, x);
+        *self.notes.note_mut(a) = Some(Noted {
+            colour: c,
+            expression: x,
+        });
     }
 
     // The expression of a register that is noted in this colour.
+    // Stays (5): no plainer: the colour is asked of a register's note and is no part of the register.
     pub(super) fn coloured(&self, c: Colour, a: Register) -> Option<Id>
         requires lowa { a.number < 32 }
         ensures { MatchOption result (has? c (noted self.now a) ≡ false) (λ x. (noted self.now a ≡ note c (at (known self.now) x)) × (has? c (noted self.now a) ≡ true) × (x.index < count self.now)) }
     {
-        match self.notes.note(a) {
-            Note::Noted(d, x) => { if d == c { Some(x) } else { None } }
-            Note::Nothing => None,
-        }
+        let noted = self.notes.note(a)?;
+        (noted.colour == c).then_some(noted.expression)
     }
 }

@@ -26,19 +26,21 @@ impl Table {
         self.nodes.clear();
     }
 
-    // The entry that equals the node.
+    // The entry that equals the node, sought from the front.
+    // Stays (6): a rule of the project: to insert into a map can fail for want of memory, and a call that judges
+    // may not.
     fn find(&self, node: Node) -> Option<Id>
         ensures { MatchOption result ((k : ℕ) → k < length self.now.nodes.items → slice_index_or self.now.nodes.items k node ≢ node) (λ x. (x.index < length self.now.nodes.items) × (slice_index_or self.now.nodes.items x.index node ≡ node)) }
     {
-        for i in 0..self.nodes.len() {
-            if self.nodes[i] == node {
-                return Some(Id { index: i });
-            }
-        }
-        None
+        self.nodes
+            .iter()
+            .position(|n| *n == node)
+            .map(|index| Id { index })
     }
 
     // The entry with the node's tree: the one that has it, or a new one.
+    // Stays (4): the new form is no plainer: a closure for the new entry would have to borrow the table that it
+    // changes.
     pub(crate) fn intern(&mut self, node: Node) -> Id
         requires room { vec_len self.old.nodes < room }
         requires children { reach node ≤ vec_len self.old.nodes }
@@ -76,6 +78,6 @@ impl Table {
         requires right { y.index < vec_len self.now.nodes }
         ensures { result ≡ same? (at (trees self.now.nodes.items) x) (at (trees self.now.nodes.items) y) }
     {
-        x.index == y.index
+        x == y
     }
 }

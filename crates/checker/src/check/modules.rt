@@ -1,7 +1,6 @@
 // A module's blocks read and checked.
 ghost use Rattle.std.specs.Prelude.{◌≡◌, ◌+◌, ◌*◌, ◌^◌, ◌<◌, ◌≤◌, length, vec_len};
 ghost use Rattle.std.specs.List.{between};
-ghost use Rattle.isa.specs.Layout.{word, LaidOut};
 ghost use Rattle.rules.specs.Limits.{in_force};
 ghost use Rattle.rules.specs.Block.{behind, card_at, BlockJudged};
 ghost use Rattle.rules.specs.Words.{edge as edge_of, module_of, kinds_of};
@@ -12,8 +11,9 @@ use super::Checker;
 use crate::fault::CheckFault;
 use crate::pass::Pass;
 use blocks::state::State;
-use isa::layout::{Shape, block_at, examine, start_at};
+use isa::layout::examine;
 use isa::limits::BLOCKS;
+use isa::module::Module;
 use std::alloc::{AllocError, Global};
 
 impl Checker {
@@ -24,16 +24,12 @@ impl Checker {
     }
 
     // Reads the blocks of a module.
-    fn read_blocks(&mut self, words: &[u32], shape: Shape)
-        requires laid { LaidOut words.now }
-        requires instructions { shape.instructions ≡ word words.now 0 }
-        requires blocks { shape.blocks ≡ word words.now 1 }
-        ensures { self.new.blocks.items ≡ (module_of words.now).blocks }
+    fn read_blocks(&mut self, examined: &Module)
+        ensures { self.new.blocks.items ≡ (module_of examined.now.layout.words.now).blocks }
     {
         self.blocks.clear();
-        for b in 0..shape.blocks {
-            self.blocks
-                .push_reserved(block_at(words, shape.instructions, b));
+        for b in 0..examined.blocks {
+            self.blocks.push_reserved(examined.layout.block(b));
         }
     }
 
@@ -44,25 +40,21 @@ impl Checker {
         ensures answer { BlockJudged in_force self.old.blocks.items (behind self.old.blocks.items (b + 1)) (card_at self.old.blocks.items b) (kinds_of part.now) result }
         ensures blocks { self.new.blocks ≡ self.old.blocks }
     {
-        let card = self.blocks[b].card;
         self.state
-            .check_block(self.blocks.as_slice(), &card, b + 1, part)
+            .check_block(self.blocks.as_slice(), &self.blocks[b].card, b + 1, part)
     }
 
     // Checks the blocks of a module in their order.
-    fn check_blocks(&mut self, words: &[u32], shape: Shape) -> Result<(), CheckFault>
-        requires laid { LaidOut words.now }
-        requires instructions { shape.instructions ≡ word words.now 0 }
-        requires blocks { shape.blocks ≡ word words.now 1 }
-        requires read { self.old.blocks.items ≡ (module_of words.now).blocks }
-        ensures { Judged words.now result }
+    fn check_blocks(&mut self, examined: &Module) -> Result<(), CheckFault>
+        requires { self.old.blocks.items ≡ (module_of examined.now.layout.words.now).blocks }
+        ensures { Judged examined.now.layout.words.now result }
     {
-        for b in 0..shape.blocks {
-            let from = edge(words, shape, b);
-            let to = edge(words, shape, b + 1);
-            if let Err(k) = self.check_part(b as usize, code(words, from, to)) {
-                return Err(broken(from, k));
-            }
+        for b in 0..examined.blocks {
+            let from = edge(examined, b);
+            let to = edge(examined, b + 1);
+            let part = code(examined.layout.words, from, to);
+            self.check_part(b as usize, part)
+                .map_err(|k| broken(from, k))?;
         }
         Ok(())
     }
@@ -71,31 +63,28 @@ impl Checker {
     fn judge(&mut self, words: &[u32]) -> Result<(), CheckFault>
         ensures { Judged words.now result }
     {
-        let shape = examine(words)?;
-        self.read_blocks(words, shape);
-        self.check_blocks(words, shape)
+        let examined = examine(words)?;
+        self.read_blocks(&examined);
+        self.check_blocks(&examined)
     }
 
-    // Points the pass at words that pass the check, or refuses them with their first fault and leaves it.
-    pub fn check<'m>(&mut self, pass: &mut Pass<'m>, words: &'m [u32]) -> Result<(), CheckFault>
-        ensures { Checked words.now result pass.old pass.new }
+    // A pass over words that pass the check; other words are refused with their first fault.
+    pub fn check<'m>(&mut self, words: &'m [u32]) -> Result<Pass<'m>, CheckFault>
+        ensures { Checked words.now result }
     {
         self.judge(words)?;
-        pass.point(words);
-        Ok(())
+        Ok(Pass::over(words))
     }
 }
 
 // Where a block starts, and behind the last one where the module ends.
-fn edge(words: &[u32], shape: Shape, b: u32) -> usize
-    requires instructions { shape.instructions ≡ word words.now 0 }
-    requires blocks { shape.blocks ≡ word words.now 1 }
-    ensures { result ≡ edge_of words.now b }
+fn edge(examined: &Module, b: u32) -> usize
+    ensures { result ≡ edge_of examined.now.layout.words.now b }
 {
-    if b < shape.blocks {
-        start_at(words, shape.instructions, b) as usize
+    if b < examined.blocks {
+        examined.layout.start(b) as usize
     } else {
-        shape.instructions as usize
+        examined.layout.instructions as usize
     }
 }
 

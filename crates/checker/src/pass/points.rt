@@ -9,19 +9,13 @@ use super::Pass;
 // One instruction, one block, the instruction halt, a block that starts at 0, and its card, all free.
 static HALT: [u32; 13] = [1, 1, 0x0f00_0000, 0, 0, 0, 0, 0, 0, 0, 0, 0, 0];
 
-// The words of the module of one halt.
-fn halt<'m>() -> &'m [u32]
-    ensures { result.now ≡ one-halt }
-{
-    &HALT
-}
-
 impl<'m> Pass<'m> {
     // A pass over the module of one halt.
+    #[tactic(auto, using(crate::proofs::Halting::halt_passes))]
     pub fn new() -> Pass<'m>
         ensures { words_of result ≡ one-halt }
     {
-        Pass { words: halt() }
+        Pass { words: &HALT }
     }
 
     // The words that passed.
@@ -31,11 +25,11 @@ impl<'m> Pass<'m> {
         self.words
     }
 
-    // Points the pass at words that passed.
-    pub(crate) fn point(&mut self, words: &'m [u32])
+    // A pass over words that passed.
+    pub(crate) fn over(words: &'m [u32]) -> Pass<'m>
         requires { Passes in_force words.now }
-        ensures { words_of self.new ≡ words.now }
+        ensures { words_of result ≡ words.now }
     {
-        *self = Pass { words };
+        Pass { words }
     }
 }

@@ -1,5 +1,5 @@
 // Filling and reading the code store.
-ghost use Rattle.std.specs.Prelude.{◌≡◌, ◌<◌, ◌≤◌, [], ◌∷◌, ◌++◌, length, IfOk, if◌then◌else◌, vec_len, MatchOption, nat_lt, slice_index_or};
+ghost use Rattle.std.specs.Prelude.{◌≡◌, ◌<◌, ◌≤◌, [], ◌∷◌, ◌++◌, length, IfOk, IfErr, if◌then◌else◌, is_ok, MatchOption, nat_lt, slice_index_or};
 ghost use Rattle.isa.specs.declared.kinds.Kind.TheVariants.{Halt};
 ghost use Rattle.machine.specs.Views.{kinds};
 
@@ -23,41 +23,23 @@ impl Code {
         self.instructions.clear();
     }
 
-    fn count(&self) -> usize
-        ensures { result ≡ vec_len self.now.instructions }
+    // Adds an instruction, or hands it back where there are 1,024.
+    pub fn push(&mut self, instruction: Instruction) -> Result<(), Instruction>
+        ensures room { is_ok result ≡ nat_lt (length (kinds self.old)) 1024 }
+        ensures after { kinds self.new ≡ (if is_ok result then kinds self.old ++ (instruction.kind ∷ []) else kinds self.old) }
+        ensures back { IfErr result (λ i. i ≡ instruction) }
     {
-        self.instructions.len()
-    }
-
-    fn has_room(&self) -> bool
-        ensures { result ≡ nat_lt (vec_len self.now.instructions) 1024 }
-    {
-        self.count() < INSTRUCTIONS as usize
-    }
-
-    fn at(&self, place: usize) -> Instruction
-        requires { place < vec_len self.now.instructions }
-        ensures { result ≡ slice_index_or self.now.instructions.items place result }
-    {
-        self.instructions[place]
-    }
-
-    // Adds an instruction, or answers false where there are 1,024.
-    pub fn push(&mut self, instruction: Instruction) -> bool
-        ensures room { result ≡ nat_lt (length (kinds self.old)) 1024 }
-        ensures after { kinds self.new ≡ (if result then kinds self.old ++ (instruction.kind ∷ []) else kinds self.old) }
-    {
-        if !self.has_room() {
-            return false;
+        if self.len() >= INSTRUCTIONS as usize {
+            return Err(instruction);
         }
         self.instructions.push_reserved(instruction);
-        true
+        Ok(())
     }
 
     pub fn len(&self) -> usize
         ensures { result ≡ length (kinds self.now) }
     {
-        self.count()
+        self.instructions.len()
     }
 
     // The instruction with this number.
@@ -65,9 +47,6 @@ impl Code {
         ensures few { length (kinds self.now) ≤ 1024 }
         ensures cases { MatchOption result (length (kinds self.now) ≤ place) (λ i. (place < length (kinds self.now)) × (i.kind ≡ slice_index_or (kinds self.now) place Halt)) }
     {
-        if place >= self.count() {
-            return None;
-        }
-        Some(self.at(place))
+        self.instructions.get(place).copied()
     }
 }

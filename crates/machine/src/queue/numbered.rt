@@ -16,10 +16,7 @@ impl Queue {
     pub fn get(&self, at: usize) -> Option<Pair>
         ensures { result ≡ slice_get (queued self.now) at }
     {
-        if at >= self.len {
-            return None;
-        }
-        Some(self.slot(at))
+        self.pairs().get(at).copied()
     }
 
     // Replaces the pair with this number, if there is one.
@@ -27,7 +24,7 @@ impl Queue {
         ensures { queued self.new ≡ slice_set (queued self.old) at pair }
     {
         if at < self.len {
-            self.write(at, pair);
+            self.slots[at] = pair;
         }
     }
 }

@@ -1,16 +1,17 @@
 // The steps of a run.
-ghost use Rattle.std.specs.Prelude.{◌≡◌, ℕ, ◌+◌, ◌-◌, ◌<◌, ◌≤◌, min, true};
+ghost use Rattle.std.specs.Prelude.{◌≡◌, ℕ, ◌+◌, ◌-◌, ◌<◌, ◌≤◌, min, true, None};
 ghost use Rattle.memory.specs.Cells.{Cells};
 ghost use Rattle.isa.specs.Registers.{registers};
 ghost use Rattle.machine.specs.Ends.{going?};
 ghost use Rattle.machine.specs.Machine.{started, seen, commit, exec, act, step, after, settled};
 ghost use Rattle.machine.specs.Laws.{Lawful};
-ghost use Rattle.machine.specs.Views.{state_of, run_of, kinds, queued};
+ghost use Rattle.machine.specs.Views.{state_of, run_of, kinds, queued, onward, came};
 
 use super::Run;
 use crate::code::Code;
 use crate::ends::{End, Report};
 use crate::latches::Latches;
+use crate::queue::Pair;
 use isa::kinds::{Colour, Kind};
 use memory::Memory;
 
@@ -24,6 +25,7 @@ impl Latches {
         ensures same { M.Memory.cells memory.new ≡ M.Memory.cells memory.old }
     {
         match colour {
+            // Stays (4): tried `unwrap_or_else`, the proof didn't close: what a closure leaves of the memory is not known.
             Colour::Green => match self.queue.find(address) {
                 Some(word) => word,
                 None => memory.load(address),
@@ -46,36 +48,27 @@ impl Run {
     }
 
     // Blue's store: it must be the oldest queued pair, which leaves the queue as it is made.
-    fn commit<M: Memory>(&mut self, address: u32, word: u32, memory: &mut M) -> End
-        requires green { self.old.latches.green < 1024 }
-        requires blue { self.old.latches.blue < 1024 }
+    fn commit<M: Memory>(&mut self, pair: Pair, memory: &mut M) -> Result<(), End>
         requires few { self.old.stores < self.old.steps }
-        ensures does { (result, state_of self.new (M.Memory.cells memory.new)) ≡ settled (state_of self.old (M.Memory.cells memory.old)) (commit (M.Memory.cells memory.old).writable (state_of self.old (M.Memory.cells memory.old)) address word) }
+        ensures does { came (λ _. onward self.old.latches None) (λ e. e) result (state_of self.new (M.Memory.cells memory.new)) ≡ settled (state_of self.old (M.Memory.cells memory.old)) (commit (M.Memory.cells memory.old).writable (state_of self.old (M.Memory.cells memory.old)) pair.address pair.word) }
         ensures same { (M.Memory.cells memory.new).writable ≡ (M.Memory.cells memory.old).writable }
         ensures steps { self.new.steps ≡ self.old.steps }
     {
-        let Some(oldest) = self.latches.queue.oldest() else {
-            return End::Reported(Report::Queue);
-        };
-        if oldest.address != address || oldest.word != word {
-            return End::Reported(Report::StoreDiffers);
+        let oldest = self.latches.queue.oldest().ok_or(Report::Queue)?;
+        if oldest != pair {
+            return Err(Report::StoreDiffers.into());
         }
-        if memory.store(address, word).is_err() {
-            return End::NoSuchCell;
-        }
+        memory.store(pair.address, pair.word)?;
         self.stores += 1;
         self.latches.queue.pop();
-        self.latches.fall();
-        End::Going
+        Ok(())
     }
 
-    // What an instruction does.
-    fn exec<M: Memory>(&mut self, kind: Kind, memory: &mut M) -> End
+    // What an instruction does; answers the place to which it leads: None for the next one.
+    fn exec<M: Memory>(&mut self, kind: Kind, memory: &mut M) -> Result<Option<u32>, End>
         requires low { registers kind ≤ 32 }
-        requires green { self.old.latches.green < 1024 }
-        requires blue { self.old.latches.blue < 1024 }
         requires few { self.old.stores < self.old.steps }
-        ensures does { (result, state_of self.new (M.Memory.cells memory.new)) ≡ settled (state_of self.old (M.Memory.cells memory.old)) (exec (M.Memory.cells memory.old).writable kind (state_of self.old (M.Memory.cells memory.old))) }
+        ensures does { came (onward self.old.latches) (λ e. e) result (state_of self.new (M.Memory.cells memory.new)) ≡ settled (state_of self.old (M.Memory.cells memory.old)) (exec (M.Memory.cells memory.old).writable kind (state_of self.old (M.Memory.cells memory.old))) }
         ensures same { (M.Memory.cells memory.new).writable ≡ (M.Memory.cells memory.old).writable }
         ensures steps { self.new.steps ≡ self.old.steps }
     {
@@ -83,64 +76,58 @@ impl Run {
             Kind::Move(_, a, word) => self.latches.set(a, word),
             Kind::Copy(a, b) => {
                 let word = self.latches.read(b);
-                self.latches.set(a, word)
+                self.latches.set(a, word);
             }
             Kind::Arith(operation, a, b, c) => {
                 let word = operation.apply(self.latches.read(b), self.latches.read(c));
-                self.latches.set(a, word)
+                self.latches.set(a, word);
             }
             Kind::Load(colour, a, b) => {
                 let address = self.latches.read(b);
                 let word = self.latches.look(colour, address, memory);
-                self.latches.set(a, word)
+                self.latches.set(a, word);
             }
             Kind::Store(colour, a, b) => {
                 let address = self.latches.read(a);
                 let word = self.latches.read(b);
+                let pair = Pair { address, word };
                 match colour {
-                    Colour::Green => self.latches.enqueue(address, word),
-                    Colour::Blue => self.commit(address, word, memory),
+                    Colour::Green => self.latches.enqueue(pair)?,
+                    Colour::Blue => self.commit(pair, memory)?,
                 }
             }
             Kind::Jump(colour, a) => {
                 let to = self.latches.read(a);
-                self.latches.jump(colour, to)
+                return Ok(self.latches.jump(colour, to)?);
             }
             Kind::Branch(colour, a, b) => {
                 let word = self.latches.read(a);
                 let to = self.latches.read(b);
-                self.latches.branch(colour, word, to)
+                return Ok(self.latches.branch(colour, word, to)?);
             }
-            Kind::Halt => self.latches.halt(),
+            Kind::Halt => return Err(self.latches.halt()),
         }
+        Ok(None)
     }
 
-    // The instruction that both counters name.
-    fn act<M: Memory>(&mut self, code: &Code, memory: &mut M) -> End
-        requires few { self.old.stores < self.old.steps }
-        ensures does { (result, state_of self.new (M.Memory.cells memory.new)) ≡ settled (state_of self.old (M.Memory.cells memory.old)) (act (M.Memory.cells memory.old).writable (kinds code.now) (state_of self.old (M.Memory.cells memory.old))) }
-        ensures same { (M.Memory.cells memory.new).writable ≡ (M.Memory.cells memory.old).writable }
-        ensures steps { self.new.steps ≡ self.old.steps }
-    {
-        if self.latches.green != self.latches.blue {
-            return End::Reported(Report::CountersDiffer);
-        }
-        let Some(instruction) = code.get(self.latches.green as usize) else {
-            return End::Reported(Report::Outside);
-        };
-        self.exec(instruction.kind, memory)
-    }
-
-    // One step of a run that goes on.
-    fn step<M: Memory>(&mut self, code: &Code, memory: &mut M)
-        requires going { going? self.old.end ≡ true }
-        requires room { self.old.steps < 1000000000 }
-        ensures does { run_of self.new (M.Memory.cells memory.new) ≡ step (M.Memory.cells memory.old).writable (kinds code.now) (run_of self.old (M.Memory.cells memory.old)) }
+    // One step: the instruction that both counters name.
+    fn step<M: Memory>(&mut self, code: &Code, memory: &mut M) -> Result<(), End>
+        requires { self.old.steps < 1000000000 }
+        ensures does { came (λ _ s. s) (λ e. e) result (state_of self.new (M.Memory.cells memory.new)) ≡ settled (state_of self.old (M.Memory.cells memory.old)) (act (M.Memory.cells memory.old).writable (kinds code.now) (state_of self.old (M.Memory.cells memory.old))) }
         ensures same { (M.Memory.cells memory.new).writable ≡ (M.Memory.cells memory.old).writable }
         ensures count { self.new.steps ≡ self.old.steps + 1 }
     {
         self.steps += 1;
-        self.end = self.act(code, memory);
+        let place = self.latches.green;
+        if place != self.latches.blue {
+            return Err(Report::CountersDiffer.into());
+        }
+        let instruction = code.get(place as usize).ok_or(Report::Outside)?;
+        match self.exec(instruction.kind, memory)? {
+            Some(to) => self.latches.go(to),
+            None => self.latches.go(place + 1),
+        }
+        Ok(())
     }
 
     // How many of n more steps it may take.
@@ -159,11 +146,12 @@ impl Run {
         ensures laws { Lawful (M.Memory.cells memory.old).writable (kinds code.now) (run_of self.old (M.Memory.cells memory.old)) }
     {
         let most = self.allowed(n);
-        let mut taken = 0;
-        while taken < most && self.end.is_going() {
-            self.step(code, memory);
-            taken += 1;
+        for taken in 0..most {
+            if !self.end.is_going() {
+                return taken;
+            }
+            self.end = self.step(code, memory).err().unwrap_or(End::Going);
         }
-        taken
+        most
     }
 }

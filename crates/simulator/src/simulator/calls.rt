@@ -1,5 +1,6 @@
 // The calls of a simulator.
-ghost use Rattle.std.specs.Prelude.{◌≡◌, MatchResult};
+ghost use Rattle.std.specs.Prelude.{◌≡◌, true, false, Some, IfSome, MatchResult};
+ghost use Rattle.machine.specs.Ends.{going?};
 ghost use Rattle.rules.specs.Words.{module_of};
 ghost use Rattle.checker.specs.Passing.{words_of};
 ghost use Rattle.simulator.specs.Calls.{loads, puts, runs, strikes, looks, probes, shows, clears};
@@ -22,7 +23,7 @@ use std::alloc::Global;
 const MOST_AT_ONCE: u32 = 1_000_000;
 
 // What `show` answers.
-#[derive(Clone, Copy)]
+#[derive(Clone, Copy, Debug, PartialEq, Eq)]
 pub struct Shown {
     pub end: End,
     pub steps: u32,
@@ -34,14 +35,14 @@ impl<M: Memory> Simulator<M> {
     pub fn new(heap: Global, memory: M) -> Result<Simulator<M>, M>
         ensures { MatchResult result (λ s. model M.Memory.cells s ≡ fresh (M.Memory.cells memory)) (λ m. m ≡ memory) }
     {
-        match Code::new(heap) {
-            Ok(code) => Ok(Simulator {
-                memory,
-                code,
-                run: None,
-            }),
-            Err(_) => Err(memory),
-        }
+        let Ok(code) = Code::new(heap) else {
+            return Err(memory);
+        };
+        Ok(Simulator {
+            memory,
+            code,
+            run: None,
+        })
     }
 
     // Loads the module of a pass, which stays good.
@@ -49,9 +50,9 @@ impl<M: Memory> Simulator<M> {
         ensures answer { result ≡ (loads (module_of (words_of pass.now)).code (model M.Memory.cells self.old)).0 }
         ensures after { model M.Memory.cells self.new ≡ (loads (module_of (words_of pass.now)).code (model M.Memory.cells self.old)).1 }
     {
-        let None = self.run else {
+        if self.run.is_some() {
             return Err(Refusal::NotIdle);
-        };
+        }
         fill_code(&mut self.code, pass.words());
         self.run = Some(Run::start());
         Ok(())
@@ -75,17 +76,22 @@ impl<M: Memory> Simulator<M> {
         }
     }
 
+    // The run that is under way and goes on: a copy, which its callers put back.
+    // Stays (4): tried a `&mut` into the option, the proof didn't close: what the option holds after the loan stays open.
+    fn going(&self) -> Result<Run, Refusal>
+        ensures { MatchResult result (λ x. (self.now.run ≡ Some x) × (going? x.end ≡ true)) (λ e. (e ≡ Refusal.NotUnderWay) × IfSome self.now.run (λ x. going? x.end ≡ false)) }
+    {
+        self.run
+            .filter(|run| run.end.is_going())
+            .ok_or(Refusal::NotUnderWay)
+    }
+
     // Steps until n are done or an end comes; answers the steps taken together with the end.
     pub fn run(&mut self, n: u32) -> Result<(u32, End), Refusal>
         ensures answer { result ≡ (runs n (model M.Memory.cells self.old)).0 }
         ensures after { model M.Memory.cells self.new ≡ (runs n (model M.Memory.cells self.old)).1 }
     {
-        let Some(mut run) = self.run else {
-            return Err(Refusal::NotUnderWay);
-        };
-        if !run.end.is_going() {
-            return Err(Refusal::NotUnderWay);
-        }
+        let mut run = self.going()?;
         if n == 0 || n > MOST_AT_ONCE {
             return Err(Refusal::BadCount);
         }
@@ -102,18 +108,9 @@ impl<M: Memory> Simulator<M> {
         ensures answer { result ≡ (strikes place value (model M.Memory.cells self.old)).0 }
         ensures after { model M.Memory.cells self.new ≡ (strikes place value (model M.Memory.cells self.old)).1 }
     {
-        let Some(mut run) = self.run else {
-            return Err(Refusal::NotUnderWay);
-        };
-        if !run.end.is_going() {
-            return Err(Refusal::NotUnderWay);
-        }
-        let Some(place) = Place::from_number(place) else {
-            return Err(Refusal::NoSuchPlace);
-        };
-        let Some(old) = read(&run.latches, place) else {
-            return Err(Refusal::NoSuchPlace);
-        };
+        let mut run = self.going()?;
+        let place = Place::try_from(place)?;
+        let old = read(&run.latches, place).ok_or(Refusal::NoSuchPlace)?;
         write(&mut run.latches, place, value);
         self.run = Some(run);
         Ok((old ^ value).count_ones())
@@ -124,13 +121,11 @@ impl<M: Memory> Simulator<M> {
         ensures answer { result ≡ (puts address word (model M.Memory.cells self.old)).0 }
         ensures after { model M.Memory.cells self.new ≡ (puts address word (model M.Memory.cells self.old)).1 }
     {
-        let None = self.run else {
+        if self.run.is_some() {
             return Err(Refusal::NotIdle);
-        };
-        match self.memory.store(address, word) {
-            Ok(()) => Ok(()),
-            Err(_) => Err(Refusal::NoSuchCell),
         }
+        self.memory.store(address, word)?;
+        Ok(())
     }
 
     // The word at an address; a memory may cache while it is read, but its meaning stays.
@@ -145,12 +140,8 @@ impl<M: Memory> Simulator<M> {
     pub fn probe(&self, place: u32) -> Result<u32, Refusal>
         ensures { result ≡ probes place (model M.Memory.cells self.now) }
     {
-        let Some(run) = self.run else {
-            return Err(Refusal::NotUnderWay);
-        };
-        let Some(place) = Place::from_number(place) else {
-            return Err(Refusal::NoSuchPlace);
-        };
+        let run = self.run.ok_or(Refusal::NotUnderWay)?;
+        let place = Place::try_from(place)?;
         read(&run.latches, place).ok_or(Refusal::NoSuchPlace)
     }
 
@@ -159,9 +150,9 @@ impl<M: Memory> Simulator<M> {
         ensures answer { result ≡ (clears (model M.Memory.cells self.old)).0 }
         ensures after { model M.Memory.cells self.new ≡ (clears (model M.Memory.cells self.old)).1 }
     {
-        let Some(_) = self.run else {
+        if self.run.is_none() {
             return Err(Refusal::NotUnderWay);
-        };
+        }
         self.run = None;
         Ok(())
     }
@@ -177,11 +168,6 @@ impl<M: Memory> Simulator<M> {
     pub fn into_memory(self) -> M
         ensures { result ≡ self.memory }
     {
-        let Simulator {
-            memory,
-            code: _,
-            run: _,
-        } = self;
-        memory
+        self.memory
     }
 }

@@ -7,9 +7,8 @@ ghost use Rattle.simulator.specs.Replay.{verdict, load_words, Responds, Replays}
 ghost use Rattle.simulator.specs.Since.{FoundAfter};
 
 use super::Simulator;
-use crate::call::{Answer, Call};
+use crate::call::{Answer, Call, Reply};
 use checker::check::Checker;
-use checker::pass::Pass;
 use memory::Memory;
 use std::alloc::{AllocError, Global};
 
@@ -21,15 +20,11 @@ impl<M: Memory> Simulator<M> {
         ensures answer { result ≡ (load_words (verdict result) words.now (model M.Memory.cells self.old)).0 }
         ensures after { model M.Memory.cells self.new ≡ (load_words (verdict result) words.now (model M.Memory.cells self.old)).1 }
     {
-        let _ = are_words(words);
-        let mut pass = Pass::new();
-        match checker.check(&mut pass, words) {
-            Ok(()) => match self.load(&pass) {
-                Ok(()) => Answer::Done,
-                Err(refusal) => Answer::Refused(refusal),
-            },
-            Err(fault) => Answer::Unfit(fault),
-        }
+        // Says that each word is of 32 bits (`sized`): the proof knows that of a slice that is read.
+        let _ = words.first();
+        let pass = checker.check(words)?;
+        self.load(&pass)?;
+        Ok(Reply::Done)
     }
 
     // Makes one call.
@@ -38,30 +33,31 @@ impl<M: Memory> Simulator<M> {
     {
         match call {
             Call::Load(words) => self.load_words(checker, words),
-            Call::Put { address, word } => match self.put(*address, *word) {
-                Ok(()) => Answer::Done,
-                Err(refusal) => Answer::Refused(refusal),
-            },
-            Call::Run { steps } => match self.run(*steps) {
-                Ok((taken, end)) => Answer::Ran { taken, end },
-                Err(refusal) => Answer::Refused(refusal),
-            },
-            Call::Strike { place, value } => match self.strike(*place, *value) {
-                Ok(bits) => Answer::Struck { bits },
-                Err(refusal) => Answer::Refused(refusal),
-            },
-            Call::Look { address } => Answer::Word {
-                word: self.look(*address),
-            },
-            Call::Probe { place } => match self.probe(*place) {
-                Ok(word) => Answer::Word { word },
-                Err(refusal) => Answer::Refused(refusal),
-            },
-            Call::Show => Answer::Shown(self.show()),
-            Call::Clear => match self.clear() {
-                Ok(()) => Answer::Done,
-                Err(refusal) => Answer::Refused(refusal),
-            },
+            Call::Put { address, word } => {
+                self.put(*address, *word)?;
+                Ok(Reply::Done)
+            }
+            Call::Run { steps } => {
+                let (taken, end) = self.run(*steps)?;
+                Ok(Reply::Ran { taken, end })
+            }
+            Call::Strike { place, value } => {
+                let bits = self.strike(*place, *value)?;
+                Ok(Reply::Struck { bits })
+            }
+            Call::Look { address } => {
+                let word = self.look(*address);
+                Ok(Reply::Word { word })
+            }
+            Call::Probe { place } => {
+                let word = self.probe(*place)?;
+                Ok(Reply::Word { word })
+            }
+            Call::Show => Ok(Reply::Shown(self.show())),
+            Call::Clear => {
+                self.clear()?;
+                Ok(Reply::Done)
+            }
         }
     }
 
@@ -80,16 +76,8 @@ impl<M: Memory> Simulator<M> {
     {
         let mut answers = Vec::with_capacity(heap, calls.len())?;
         for call in calls {
-            let answer = self.apply(checker, call);
-            answers.push_reserved(answer);
+            answers.push_reserved(self.apply(checker, call));
         }
         Ok(answers)
     }
-}
-
-// Reads the first word, or 0. That a slice is read shows that all that stands in it are words.
-fn are_words(words: &[u32]) -> u32
-    ensures { AreWords words.now }
-{
-    if words.len() > 0 { words[0] } else { 0 }
 }

@@ -1,5 +1,4 @@
-use Rattle.std.proofs.Common.{◌≡◌, ℕ, zero, suc, ◌<◌, [], ◌∷◌, get_or, sym, refl, arith}
-use mathlib.Core.Path.{subst₃}
+use Rattle.std.proofs.Common.{◌≡◌, ℕ, zero, suc, ◌<◌, [], ◌∷◌, get_or, refl, arith, rules}
 use Rattle.language.specs.Meaning.{book_of}
 use Rattle.language.specs.Sample.{comes}
 use Rattle.worked.specs.Examples.{WorkedExamples}
@@ -24,4 +23,4 @@ all = record {
 }
 
 pub returns : goal.returns
-returns c = subst₃ WorkedExamples (sym c.numbers.ensures.steps) (sym c.numbers.ensures.place) (sym c.numbers.ensures.need) all
+returns c = search (rules, all)

@@ -1,7 +1,7 @@
-use Rattle.std.proofs.Common.{◌≡◌, drop}
+use Rattle.std.proofs.Common.{◌≡◌, drop, vec_items}
 use Rattle.plan.specs.Tables.{all_parts}
 use Rattle.compiler.specs.Widths.{first_wide}
 use Rattle.compiler.proofs.judge.first_wide.Given as goal
 
-abbrev pub invariant-loop-i : goal.invariant-loop-i
-invariant-loop-i l = first_wide l.widths (all_parts l.statements) ≡ first_wide l.widths (all_parts (drop l.i l.statements))
+abbrev pub invariant-loop-statement : goal.invariant-loop-statement
+invariant-loop-statement l = first_wide l.widths (all_parts (vec_items l.plan.statements)) ≡ first_wide l.widths (all_parts (drop l.statement-index l.statement-items))

@@ -1,8 +1,12 @@
-use Rattle.std.proofs.Common.{◌≡◌, ℕ, ◌≤◌, length, get_or, vec_items, vec_len, vec_capacity}
+use Rattle.std.proofs.Common.{◌≡◌, ℕ, ◌≤◌, get_or, vec_items, vec_len, vec_capacity}
 use Rattle.compiler.specs.Widths.{Measured}
 use Rattle.compiler.proofs.width.measure.Given as goal
 
-abbrev pub invariant-loop-i : goal.invariant-loop-i
-invariant-loop-i l =
-    (vec_len l.widths ≡ l.i) × (vec_capacity l.widths ≡ vec_capacity l.initial.widths) × (length l.nodes ≤ vec_capacity l.widths)
-    × ((k : ℕ) → get_or (vec_items l.widths) k 0 ≤ l.i) × (Measured l.nodes (vec_items l.widths))
+abbrev pub invariant-loop-node : goal.invariant-loop-node
+invariant-loop-node l = record {
+  len : vec_len l.widths ≡ l.node-index;
+  capacity : vec_capacity l.widths ≡ vec_capacity l.initial.widths;
+  room : 8192 ≤ vec_capacity l.widths;
+  low : (k : ℕ) → get_or (vec_items l.widths) k 0 ≤ l.node-index;
+  measured : Measured l.node-items (vec_items l.widths);
+}

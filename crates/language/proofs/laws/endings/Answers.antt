@@ -1,5 +1,5 @@
 use Rattle.language.proofs.Lawful.{laws}
 use Rattle.language.proofs.laws.endings.Goals as goal
 
-pub returns : goal.returns
-returns c = record { fine = c.numbers.ensures.fine; stuck = c.numbers.ensures.stuck; laws = laws }
+pub returns-clause-laws : goal.returns-clause-laws
+returns-clause-laws c = laws

@@ -1,5 +1,5 @@
 use Rattle.language.proofs.Sampled.{sample-within}
 use Rattle.language.proofs.sample.sample_need.Goals as goal
 
-pub returns : goal.returns
-returns c = record { value = c.need_number.ensures; within = sample-within }
+pub returns-clause-within : goal.returns-clause-within
+returns-clause-within c = sample-within

@@ -3,4 +3,4 @@ use Rattle.talft.specs.Acts.{seen, acts}
 use Rattle.talft.proofs.calls.calls_of.Given as goal
 
 abbrev pub invariant-loop-entry : goal.invariant-loop-entry
-invariant-loop-entry l = map seen (vec_items l.calls) ++ acts l.passed (drop l.entry-index l.entries) ≡ acts l.passed l.entries
+invariant-loop-entry l = map seen (vec_items l.calls) ++ acts l.last (drop l.entry-index l.entries) ≡ acts l.first l.entries

@@ -1,5 +1,5 @@
 use Rattle.translation.proofs.Passing.{code_checked}
 use Rattle.translation.proofs.checked.code_checked.Goals as goal
 
-pub returns : goal.returns
-returns c = record { sample = c.sample_size.ensures; every = code_checked }
+pub returns-clause-every : goal.returns-clause-every
+returns-clause-every c = code_checked

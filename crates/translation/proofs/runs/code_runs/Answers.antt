@@ -1,5 +1,5 @@
 use Rattle.translation.proofs.Concluding.{code_runs}
 use Rattle.translation.proofs.runs.code_runs.Goals as goal
 
-pub returns : goal.returns
-returns c = record { sample = c.sample_steps.ensures; every = code_runs }
+pub returns-clause-every : goal.returns-clause-every
+returns-clause-every c = code_runs

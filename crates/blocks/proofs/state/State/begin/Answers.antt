@@ -1,6 +1,4 @@
 use Rattle.std.proofs.Common.{◌<◌, length, ap, ◌∙◌, arith}
-use Rattle.std.proofs.lemmas.List.{take_all}
-use Rattle.rules.specs.Cards.{fresh}
 use Rattle.blocks.specs.View.{note_card}
 use Rattle.blocks.proofs.Blocks.{fresh-more}
 use Rattle.blocks.proofs.state.State.begin.Goals as goal
@@ -9,6 +7,3 @@ pub loop-r-preserved : goal.loop-r-preserved
 loop-r-preserved c =
     let low : c.loop-r.r < length c.args.card.now = omega arith in
     (c.open.ensures.after ∙ ap (note_card _ _) c.loop-r.invariant.0 ∙ fresh-more c.args.card.now _ _ low, omega arith)
-
-pub returns : goal.returns
-returns c = record { after = c.loop-r.invariant.0 ∙ ap fresh (take_all c.loop-r.r c.args.card.now (omega arith)); entries = omega arith }

@@ -1,4 +1,4 @@
-use Rattle.std.proofs.Common.{◌≡◌, ◌<◌, [], ◌∷◌, ◌++◌, map, length, sym, ap, ◌∙◌, arith}
+use Rattle.std.proofs.Common.{◌<◌, [], ◌∷◌, ◌++◌, map, length, sym, ap, ◌∙◌, arith}
 use Rattle.std.specs.List.{range_with_len}
 use Rattle.std.proofs.lemmas.List.FromFn.{length-map-range_with_len, map-range_with_len_more}
 use Rattle.isa.specs.Layout.{word}
@@ -9,8 +9,8 @@ use Rattle.checker.proofs.check.Checker.read_blocks.Goals as goal
 
 pub push_reserved-requires : goal.push_reserved-requires
 push_reserved-requires c =
-    let ws = c.args.words.now in
-    let f = few ws c.requires.laid.code in
+    let ws = c.args.examined.now.layout.words.now in
+    let f = few ws c.args.examined.now.laid.code in
     let l = ap length c.loop-b.invariant ∙ length-map-range_with_len (block_of ws (word ws 0)) 0 c.loop-b.b in
     let v = c.loop-b.self.blocks.ok.0 in
     let r = c.loop-b.self.room in
@@ -18,17 +18,11 @@ push_reserved-requires c =
 
 pub loop-b-preserved : goal.loop-b-preserved
 loop-b-preserved c =
-    let ws = c.args.words.now in
+    let ws = c.args.examined.now.layout.words.now in
     let i = c.loop-b.b in
     let low : i < word ws 1 = omega arith in
-    let b = read_block ws c.requires.laid.blocks c.args.shape.instructions i c.block_at.result c.requires.instructions low c.block_at.ensures.start c.block_at.ensures.card in
+    let b = read_block ws c.args.examined.now.laid.blocks c.args.examined.now.layout.instructions i c.block.result c.args.examined.now.instructions_counted low c.block.ensures.start c.block.ensures.card in
     c.push_reserved.ensures.items
-    ∙ ap (λ l. l ++ (c.block_at.result ∷ [])) c.loop-b.invariant
+    ∙ ap (λ l. l ++ (c.block.result ∷ [])) c.loop-b.invariant
     ∙ ap (λ x. map (block_of ws (word ws 0)) (range_with_len 0 i) ++ (x ∷ [])) b
     ∙ sym (map-range_with_len_more (block_of ws (word ws 0)) 0 i i (omega arith))
-
-pub returns : goal.returns
-returns c =
-    let ws = c.args.words.now in
-    let e : c.loop-b.b ≡ word ws 1 = omega arith in
-    c.loop-b.invariant ∙ ap (λ k. map (block_of ws (word ws 0)) (range_with_len 0 k)) e

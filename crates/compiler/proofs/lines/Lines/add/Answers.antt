@@ -1,11 +1,10 @@
-use Rattle.std.proofs.Common.{ap, ◌∙◌}
-use Rattle.compiler.specs.declared.line.Entry.TheVariants.{Inside}
+use Rattle.std.proofs.Common.{None, ap, ◌∙◌}
 use Rattle.compiler.specs.Emitting.{emitted}
 use Rattle.compiler.proofs.Adding.{emitted-push}
 use Rattle.compiler.proofs.lines.Lines.add.Goals as goal
 
-pub returns : goal.returns
-returns c = record {
-  code = λ K. ap (λ ls. emitted ls Inside K) c.push_reserved.ensures.items ∙ emitted-push _ _ Inside K;
+pub returns-then-len-lt-LINES : goal.returns-then-len-lt-LINES
+returns-then-len-lt-LINES c h = record {
+  code = λ K. ap (λ ls. emitted ls None K) c.push_reserved.ensures.items ∙ emitted-push _ _ None K;
   longer = c.push_reserved.ensures.len;
 }

@@ -1,33 +1,25 @@
-use Rattle.std.proofs.Common.{◌≤◌, length, vec_items, sym, refl, ◌∙◌, subst, arith, rules}
+use Rattle.std.proofs.Common.{length, vec_items, vec_len, sym, refl, ap, ◌∙◌, subst, arith, rules}
+use Rattle.std.proofs.lemmas.Result.{IfOk-from_err}
 use Rattle.stack.specs.Items.{items}
 use Rattle.grammar.specs.declared.mark.Mark.TheVariants.{LineEnd}
 use Rattle.grammar.proofs.Acceptor.{add}
 use Rattle.plan.specs.declared.reader.Reader.{Reader}
 use Rattle.plan.specs.Plans.{spent}
-use Rattle.plan.proofs.Beginning.{quiet_skip, same-starts, laid_starts}
-use Rattle.plan.proofs.Steps.{Skip, goes_skip, shorter, by_err, err_made}
+use Rattle.plan.proofs.Beginning.{laid_starts}
+use Rattle.plan.proofs.Steps.{Skip, skipped, by_err}
 use Rattle.plan.proofs.Lines.{blank_passed, told_err}
-use Rattle.plan.proofs.Opening.{opened_more, onward-goes, onward_laid}
+use Rattle.plan.proofs.Opening.{opened-goes, opened_laid}
 use Rattle.plan.proofs.Laying.{laid_shows, ask-same}
 use Rattle.plan.specs.Showing.{Shows, doing}
 use Rattle.plan.proofs.reader.Reader.line.Goals as goal
 
-pub returns-in-LineEnd : goal.returns-in-LineEnd
-returns-in-LineEnd c =
+pub returns-in-LineEnd-clause-says : goal.returns-in-LineEnd-clause-says
+returns-in-LineEnd-clause-says c =
     let a = c.args.self.now in
     let q = c.skip.ensures in
-    let k : Skip a c.skip.new.self LineEnd = record { seen = search rules; rest_is = q.rest; marks_is = q.marks; plan_is = q.plan } in
-    let on = onward-goes (goes_skip k) in
+    let k : Skip a c.skip.new.self LineEnd = skipped (search rules) q.rest q.marks q.plan in
     let os = items c.args.repeats.now in
-    record {
-      depth = search rules;
-      onward = on;
-      less = omega (arith, shorter k);
-      starts = same-starts a c.skip.new.self q.plan (quiet_skip k refl);
-      opened = opened_more a.plan c.skip.new.self.plan os on.longer on.dearer c.requires.opened;
-      slots = c.requires.slots;
-      says = λ K S. (K, subst (λ p. Shows (vec_items p.nodes) (vec_items p.statements) (spent p) os K) (sym q.plan) S, blank_passed _ (length os) K k);
-    }
+    λ K S. (K, subst (λ p. Shows (vec_items p.nodes) (vec_items p.statements) (spent p) os K) (sym q.plan) S, blank_passed _ (length os) K k)
 
 pub returns-in_ok-statement-in_default : goal.returns-in_ok-statement-in_default
 returns-in_ok-statement-in_default c =
@@ -37,18 +29,12 @@ returns-in_ok-statement-in_default c =
     let b = c.statement.new.self in
     let w = c.add_statement.ensures in
     let os = items c.args.repeats.now in
-    let z : Reader = record { marks = b.marks; at = b.at; plan = c.add_statement.new.self } in
-    let up : b.plan.own ≤ z.plan.own = omega (arith, w.own) in
-    let on = onward_laid {c = z} r.goes r.less refl refl w.nodes w.len up in
-    let d = c.args.nesting.now.depth in
+    let z : Reader = record { marks = b.marks; at = b.at; plan = c.add_statement.new.self; node_room = omega (arith, b.node_room, ap vec_len w.nodes); statement_room = omega (arith, w.len, ap vec_len r.goes.statements, r.less, a.statement_room) } in
     record {
-      depth = r.depth;
-      onward = on;
+      ready = record { opened = opened_laid z.plan os r.goes w.nodes w.len (omega (arith, w.own)) c.requires.ready.opened; slots = c.requires.ready.slots };
       less = r.less;
       starts = laid_starts a b z s r.goes.statements w.statements refl r.placed;
-      opened = opened_more a.plan z.plan os on.longer on.dearer c.requires.opened;
-      slots = c.requires.slots;
-      says = λ K S. (add (doing (vec_items b.plan.nodes) s) K, laid_shows a b z s r.goes r.laid w.nodes w.statements w.own S, r.says (length os) K ∙ ask-same b z d (length os) _ refl refl);
+      says = λ K S. (add (doing (vec_items b.plan.nodes) s) K, laid_shows a b z s r.goes r.laid w.nodes w.statements w.own S, r.says (length os) K ∙ ask-same b _ 0 (length os) _ refl refl);
     }
 
 pub returns-in_err-statement-in_default : goal.returns-in_err-statement-in_default
@@ -59,18 +45,9 @@ returns-in_err-statement-in_default c =
     let f = c.in_err-statement-in_default.field-0.0 in
     let h = c.from_residual.ensures.1 in
     let os = items c.args.repeats.now in
-    let on = onward-goes r.goes in
     record {
-      depth = r.depth;
-      onward = on;
-      less = err_made x _ (by_err x f h);
-      starts = err_made x _ (by_err x f h);
-      opened = opened_more a.plan c.statement.new.self.plan os on.longer on.dearer c.requires.opened;
-      slots = c.requires.slots;
+      ready = record { opened = opened-goes os r.goes c.requires.ready.opened; slots = c.requires.ready.slots };
+      less = IfOk-from_err x _ (by_err x _ h);
+      starts = IfOk-from_err x _ (by_err x _ h);
       says = λ K S. told_err a _ _ os os K x f h (r.says (length os) K);
     }
-
-pub returns-in-End : goal.returns-in-End
-returns-in-End c =
-    let r = c.end.ensures in
-    record { depth = search rules; onward = r.onward; less = r.less; starts = r.starts; opened = r.opened; slots = r.slots; says = λ K S. r.says c.args.nesting.now.depth K S }

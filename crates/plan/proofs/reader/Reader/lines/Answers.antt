@@ -1,32 +1,16 @@
-use Rattle.std.proofs.Common.{◌≡◌, ◌<◌, [], length, None, Ok, Err, sym, refl, ap, ◌∙◌, subst, arith, rules}
+use Rattle.std.proofs.Common.{◌≡◌, ◌<◌, [], length, None, Ok, Err, sym, ap, ◌∙◌, arith, rules}
 use Rattle.stack.specs.Items.{items}
-use Rattle.grammar.proofs.Acceptor.{line, plain, top}
+use Rattle.grammar.proofs.Acceptor.{line}
 use Rattle.plan.specs.declared.fault.ReadFault.TheVariants as fault-is
-use Rattle.plan.specs.Reading.{rest, first, place_of, ask, judgement, Rooms}
+use Rattle.plan.specs.Reading.{rest, first, place_of, ask}
 use Rattle.plan.proofs.Beginning.{all_placed}
 use Rattle.plan.proofs.Lines.{strange_met}
 use Rattle.language.specs.Plans.{done}
 use Rattle.std.proofs.lemmas.List.{nil_from_length}
-use Rattle.grammar.proofs.Acceptor.{start}
 use Rattle.plan.proofs.Lines.{all_read, left_open}
 use Rattle.plan.proofs.Listed.{whole}
 use Rattle.plan.proofs.Finishing.{open_base, lines_err}
 use Rattle.plan.proofs.reader.Reader.lines.Goals as goal
-
-pub loop-mark-init : goal.loop-mark-init
-loop-mark-init c =
-    (refl, c.requires.rooms, c.requires.opened, c.requires.slots, (top plain, c.requires.empty, ap (λ os. ask c.args.self.now 0 (length os) start) (sym c.requires.none)), refl)
-
-pub loop-mark-preserved : goal.loop-mark-preserved
-loop-mark-preserved c =
-    let inv = c.loop-mark.invariant in
-    let r = c.in_ok-line.ensures in
-    let d : c.loop-mark.nesting.depth ≡ 0 = inv.0 ∙ c.requires.level in
-    let t = r.says inv.4.0 inv.4.1 in
-    let os = items c.loop-mark.repeats in
-    let qs = items c.line.new.repeats in
-    let rooms : Rooms c.line.new.self = record { nodes = omega (arith, inv.1.nodes, r.onward.room); statements = omega (arith, inv.1.statements, r.onward.lines) } in
-    (r.depth ∙ inv.0, rooms, r.opened, r.slots, (t.0, t.1, inv.4.2 ∙ subst (λ n. ask c.loop-mark.self n (length os) (line inv.4.0) ≡ ask c.line.new.self n (length qs) (line t.0)) d t.2), r.starts ∙ inv.5)
 
 pub returns : goal.returns
 returns c =
@@ -37,11 +21,8 @@ returns c =
     let none : None ≡ first (rest a) = search rules in
     let e : Ok n ≡ place_of (rest a) a.marks.end = sym c.in_ok-end.was ∙ c.place.ensures in
     let nil : os ≡ [] = nil_from_length os (omega (arith, c.len.ensures, c.if-len-gt0.false)) in
-    let w = whole inv.4.1 nil in
-    record {
-      depth = inv.0;
-      says = record { tree = w.plan done; says = inv.4.2 ∙ ap (λ B. ask a 0 (length os) (line B)) w.base_is ∙ all_read a n 0 (length os) w.plan none e; lists = w.lists; costs = w.needs_is; places_are = all_placed a none ∙ inv.5 };
-    }
+    let w = whole inv.1.1 nil in
+    record { tree = w.plan done; says = inv.1.2 ∙ ap (λ B. ask a 0 (length os) (line B)) w.base_is ∙ all_read a n 0 (length os) w.plan none e; lists = w.lists; costs = w.needs_is; places_are = all_placed a none ∙ inv.2 }
 
 pub returns-then-len-gt0 : goal.returns-then-len-gt0
 returns-then-len-gt0 c =
@@ -52,8 +33,8 @@ returns-then-len-gt0 c =
     let none : None ≡ first (rest a) = search rules in
     let e : Ok n ≡ place_of (rest a) a.marks.end = sym c.in_ok-end.was ∙ c.place.ensures in
     let some : 0 < length os = omega (arith, c.len.ensures, c.if-len-gt0.true) in
-    let w = open_base inv.4.1 some in
-    record { depth = inv.0; says = inv.4.2 ∙ ap (λ B. ask a 0 (length os) (line B)) w.is ∙ left_open a n 0 (length os) w.lines w.tree w.outer none e }
+    let w = open_base inv.1.1 some in
+    inv.1.2 ∙ ap (λ B. ask a 0 (length os) (line B)) w.is ∙ left_open a n 0 (length os) w.lines w.tree w.outer none e
 
 pub returns-in_err-end : goal.returns-in_err-end
 returns-in_err-end c =
@@ -63,15 +44,4 @@ returns-in_err-end c =
     let x = c.from_residual-in_err-end.result in
     let h = c.from_residual-in_err-end.ensures.1 in
     let e : Err f ≡ place_of (rest a) a.marks.end = sym c.in_err-end.was ∙ c.place.ensures in
-    record { depth = inv.0; says = lines_err c.args.self.now a x (fault-is.Mark f) h (inv.4.2 ∙ strange_met a f 0 _ _ e) }
-
-pub returns-in_err-line : goal.returns-in_err-line
-returns-in_err-line c =
-    let inv = c.loop-mark.invariant in
-    let r = c.in_err-line.ensures in
-    let f = c.in_err-line.field-0.0 in
-    let x = c.from_residual.result in
-    let h = c.from_residual.ensures.1 in
-    let d : c.loop-mark.nesting.depth ≡ 0 = inv.0 ∙ c.requires.level in
-    let os = items c.loop-mark.repeats in
-    record { depth = r.depth ∙ inv.0; says = lines_err c.args.self.now _ x f h (inv.4.2 ∙ subst (λ n. ask c.loop-mark.self n (length os) (line inv.4.0) ≡ judgement f) d (r.says inv.4.0 inv.4.1)) }
+    lines_err c.args.self.now a x (fault-is.Mark f) h (inv.1.2 ∙ strange_met a f 0 _ _ e)

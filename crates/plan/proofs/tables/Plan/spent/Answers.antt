@@ -7,10 +7,7 @@ overflow_add-result c =
     let p = c.args.self.now in
     omega (arith, owns_most (vec_items p.statements), p.statements.ok.0, p.owned, p.few.0, p.few.1)
 
-pub returns : goal.returns
-returns c =
+pub returns-clause-bound : goal.returns-clause-bound
+returns-clause-bound c =
     let p = c.args.self.now in
-    record {
-      value = omega (arith, c.len.ensures);
-      bound = omega (arith, owns_most (vec_items p.statements), p.statements.ok.0, p.owned, p.few.0, p.few.1, c.len.ensures);
-    }
+    omega (arith, owns_most (vec_items p.statements), p.statements.ok.0, p.owned, p.few.0, p.few.1, c.len.ensures)

@@ -1,4 +1,4 @@
-use Rattle.std.proofs.Common.{ℕ, List, map, ap, ◌∙◌}
+use Rattle.std.proofs.Common.{ℕ, List, map, ap, ◌∙◌, rules}
 use Rattle.std.specs.List.{range_with_len}
 use Rattle.isa.specs.Layout.{kind_at, word}
 use Rattle.rules.specs.Words.{module_of}
@@ -7,12 +7,10 @@ use Rattle.machine.specs.Views.{kinds}
 use Rattle.simulator.proofs.Loading.{idle_loads}
 use Rattle.simulator.proofs.simulator.Simulator.load.Goals as goal
 
-pub returns : goal.returns
-returns g c =
+pub returns-clause-after : goal.returns-clause-after
+returns-clause-after g c =
     let s = c.args.self.now in
     let cells = g.M.Memory.cells s.memory in
     let ws = words_of c.args.pass.now in
-    let l =
-    idle_loads (module_of ws).code (kinds s.code) (kinds c.fill_code.new.code) cells s.run c.start.result c.in-None.is
-    (c.fill_code.ensures ∙ ap (λ (x : List ℕ). map (kind_at x) (range_with_len 0 (word x 0))) c.words.ensures) (c.start.ensures cells) in
-    record { answer = l.answer; after = l.after }
+    idle_loads (module_of ws).code (kinds s.code) (kinds c.fill_code.new.code) cells s.run c.start.result (search rules)
+    (c.fill_code.ensures ∙ ap (λ (x : List ℕ). map (kind_at x) (range_with_len 0 (word x 0))) c.words.ensures) (c.start.ensures cells)

@@ -17,9 +17,7 @@ loop-call-preserved g c =
     let inv = c.loop-call.invariant in
     let pushed = c.push_reserved.ensures in
     let longer = take_more calls i _ c.loop-call-test.true in
-    (replays_along refl (sym longer) (sym pushed.items) (replays_more inv.0 c.apply-answer.ensures), omega (arith, pushed.len, inv.1), omega (arith, pushed.capacity, inv.2))
+    (replays_along refl (sym longer) (sym pushed.items) (replays_more inv.0 c.apply.ensures), omega (arith, pushed.len, inv.1), omega (arith, pushed.capacity, inv.2))
 
-pub returns : goal.returns
-returns g c =
-    let whole = replays_along refl (take_all _ _ c.loop-call-test.false) refl c.loop-call.invariant.0 in
-    record { reached = whole; found = found_after whole }
+pub returns-clause-found : goal.returns-clause-found
+returns-clause-found g c = found_after (replays_along refl (take_all _ _ c.loop-call-test.false) refl c.loop-call.invariant.0)
