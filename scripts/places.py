@@ -6,7 +6,7 @@
 Points: 1 own enums, flags and codes; 2 twins; 3 counted loops; 4 conversions, comparisons and printing by hand;
 5 repeated facts and parameters that travel together; 6 lengths and indices beside buffers; 7 switches on what to do;
 8 proofs. It goes by text: what it lists is to be read, and docs/DESIGN-PASS.md says what became of each. A place
-with a line `// Stays: ..` beside it, which says why it stays as it is, is marked so. Tests are left out but with
+with a line `// Stays (POINT): ..` beside it, which says why it stays as it is, is marked so. Tests are left out but with
 --tests.
 """
 import collections
@@ -31,7 +31,7 @@ class Source:
         self.path = path.relative_to(TOP)
         raw = path.read_text()
         self.text = re.sub(r"//[^\n]*", "", raw)
-        self.reasons = [i + 1 for i, line in enumerate(raw.split("\n")) if "// Stays:" in line]
+        self.reasons = [(i + 1, int(m.group(1))) for i, line in enumerate(raw.split("\n")) for m in re.finditer(r"// Stays \((\d)\):", line)]
 
     def line(self, at):
         return self.text.count("\n", 0, at) + 1
@@ -119,6 +119,8 @@ def own_enums(sources):
     for source in sources:
         for name, variants, spot in enums(source):
             bare = [v for v in variants if re.fullmatch(r"\w+", v)]
+            if name.endswith("Fault"):
+                continue
             if len(variants) == 2 and len(bare) == 1:
                 yield Found(f"enum {name} {{ {', '.join(variants)} }}", [spot])
             elif any(re.match(r"(Refused|Unfit|Err\w*|Failed)\b", v) for v in variants) and len(bare) != len(variants):
@@ -129,10 +131,10 @@ def own_enums(sources):
                 yield Found(f"fn {f.name} answers bool beside what it changes", at(f))
             if re.fullmatch(r"u\d+|usize", f.result) and "match self" in f.body and sum(a.isdigit() for a in arms) >= 2:
                 yield Found(f"fn {f.name} gives numbers for kinds", at(f))
-            if len(re.findall(r"^\s*[0-9]+(?:\.\.=[0-9]+)? => ", f.body, re.M)) >= 2 and "::" in f.body:
+            if f.name != "try_from" and len(re.findall(r"^\s*[0-9]+(?:\.\.=[0-9]+)? => ", f.body, re.M)) >= 2 and "::" in f.body:
                 yield Found(f"fn {f.name} gives kinds for numbers", at(f))
-            if re.fullmatch(r"\(?(?:u8(?:, )?)+\)?", f.result) and f.public and not f.params:
-                yield Found(f"fn {f.name} answers {f.result} and carries a theorem", at(f))
+            if f.name.endswith(("ending", "endings")) and re.fullmatch(r"\(?(?:u8(?:, )?)+\)?", f.result):
+                yield Found(f"fn {f.name} gives numbers for kinds", at(f))
         for m in re.finditer(r"^    (?:pub(?:\(\w+\))? )?(\w+): (bool|Option<u32>),", source.text, re.M):
             yield Found(f"{m.group(1)}: {m.group(2)}", [source.spot(m.start())])
 
@@ -148,17 +150,20 @@ def twins(sources):
         for f in functions(source):
             crate = source.path.parts[1]
             words = shape(f.body)
-            if len(words) >= 12:
+            if len(words) >= 20:
                 groups["same shape", " ".join(words)].append(f)
             elif re.fullmatch(r"\s*\d+\s*", f.body):
                 groups["a constant with a contract", f.body.strip()].append(f)
             elif words:
                 groups["same name and body", (f.name, " ".join(f.body.split()))].append(f)
-            groups["beside each other", (crate, f.name.removeprefix("try_"))].append(f)
+            if f.name not in ("from", "try_from"):
+                groups["beside each other", (crate, f.name.removeprefix("try_"))].append(f)
     for (what, _), group in groups.items():
         if what == "beside each other" and not any(f.name.startswith("try_") for f in group):
             continue
         if what == "same name and body" and (len({f.path for f in group}) == 1 or group[0].name in ("from", "fmt")):
+            continue
+        if what == "a constant with a contract" and all(f.public for f in group):
             continue
         if len(group) > 1:
             yield Found(f"{what}: " + ", ".join(f.name for f in group), [(f.path, f.line) for f in group])
@@ -171,7 +176,7 @@ def counted_loops(sources):
             body = text[m.end() : closing(text, m.end() - 1) - 1]
             head = re.sub(r"\s+", " ", m.group(1)).strip()
             by = r"\[[^\]]*\b%s\b[^\]]*\]|\b(?:slot|item)\(%s\b" % (m.group(2), m.group(2))
-            if m.group(2) is None or re.search(by, body):
+            if re.search(by, body) if m.group(2) else re.search(r"\+= 1\b", body):
                 yield Found(head, [source.spot(m.start())])
         for m in re.finditer(r"let mut (\w+) = [01]\w*;", text):
             part, name = text[m.end() : m.end() + 700], m.group(1)
@@ -184,14 +189,13 @@ BY_HAND = [
     (r"None => (?:false|return (?:false|None))", "None to false"),
     (r"Some\(_\) => true", "is_some"),
     (r"Some\((\w+)\) => Some\(\1\)", "an Option passed on"),
-    (r"Some\((\w+)\) => \1,\s*\n\s*None => ", "unwrap_or"),
+    (r"Some\((\w+)\) => \1,\s*\n\s*None => [^{]", "unwrap_or"),
     (r"Ok\((\w+|\(\))\) => Ok\(\1\)", "a Result passed on"),
     (r"Ok\(\(\)\) => \w+::\w+,", "a Result turned"),
     (r"Err\(_?\w*\) => Err\(", "an error turned"),
     (r"else \{\s*return None;", "`?`"),
-    (r"let Some\([^)]*\) = [^;]*else \{\s*return Err\(", "ok_or"),
+    (r"let Some\([^)]*\) = [^;]*else \{\s*return Err\(\w+(?:::\w+)*(?:\(\w*\))?\);", "ok_or"),
     (r"=> true,\s*\n?\s*[\w:(|) _]+ => (?:true|false),|=> true,\n\s*_ => false", "matches!"),
-    (r"impl(?:<[^>]*>)? From<", "From"),
     (r"fn from_\w+\(", "a conversion of its own name"),
     (r"-> &'static str", "a name as text"),
     (r"\bif same\(", "an equality of its own"),
@@ -217,7 +221,7 @@ def repeated(sources):
                 if kind == "requires":
                     facts[crate, fact][f.path, f.line] = f.name
             typed = {re.sub(r"&'\w+ ", "&", re.sub(r"<'\w+>|<'_>", "", p.removeprefix("mut "))) for p in f.params}
-            typed = sorted(p for p in typed if ":" in p and "HostRuntime" not in p)
+            typed = sorted(p for p in typed if ":" in p and not p.endswith(("HostRuntime", ": Global")))
             for i, a in enumerate(typed):
                 for b in typed[i + 1 :]:
                     together[crate, a, b].append(f)
@@ -233,7 +237,7 @@ def beside(sources):
     for source in sources:
         for m in re.finditer(r"\bstruct (\w+)[^{;]*\{", source.text):
             body = source.text[m.end() : closing(source.text, m.end() - 1) - 1]
-            for field in re.finditer(r"(\w+): usize", body):
+            for field in re.finditer(r"\b(len|index|at|from|to|statement): usize", body):
                 yield Found(f"struct {m.group(1)} holds {field.group(1)}: usize", [source.spot(m.start())])
         for f in functions(source):
             if any("&mut [" in p for p in f.params) and re.search(r"\busize|\bu32", f.result):
@@ -243,14 +247,17 @@ def beside(sources):
 
 
 def switches(sources):
-    bare = {name for s in sources for name, variants, _ in enums(s) if all(re.fullmatch(r"\w+", v) for v in variants)}
+    bare = set()
+    for source in sources:
+        for m in re.finditer(r"^(?:pub\(\w+\) )?enum (\w+) \{([^{}()]*)\}", source.text, re.M):
+            bare.add(m.group(1))
     for source in sources:
         for f in functions(source):
             for p in f.params:
                 m = re.fullmatch(r"(\w+): (\w+)", p)
                 if m and m.group(2) in bare and re.search(r"match %s\b" % m.group(1), f.body):
                     yield Found(f"fn {f.name} switches on {p}", at(f))
-        for m in re.finditer(r"\[fn\(|\[[^\]]*; \d+\] = \[\w+, \w+\b(?=[^\d])", source.text):
+        for m in re.finditer(r"\[fn\(|\[[^\]]*; \d+\] = \[[a-z]\w*, [a-z]", source.text):
             yield Found("functions in a table", [source.spot(m.start())])
 
 
@@ -279,7 +286,7 @@ def main():
     reasons = {s.path: s.reasons for s in sources}
     for point in [int(a) for a in sys.argv[1:] if a.isdigit()] or range(1, 9):
         found = list(POINTS[point - 1](sources))
-        stay = [any(0 <= line - r <= 9 or 0 < r - line <= 2 for path, line in f.spots for r in reasons[path]) for f in found]
+        stay = [any(p == point and (0 <= line - r <= 9 or 0 < r - line <= 3) for path, line in f.spots for r, p in reasons[path]) for f in found]
         print(f"point {point}: {len(found)} found, {sum(stay)} with a reason to stay")
         for f, s in zip(found, stay):
             print("  " + " ".join(([f"{f.spots[0][0]}:{f.spots[0][1]}"] if f.spots else []) + [f.text] + (["[stays]"] if s else [])))
