@@ -1,5 +1,5 @@
 // Reading the lines of a plan.
-ghost use Rattle.std.specs.Prelude.{◌≡◌, ◌<◌, [], length, IfOk, Some, OnOk};
+ghost use Rattle.std.specs.Prelude.{◌≡◌, ◌<◌, ◌≤◌, [], length, IfOk, Some, OnOk};
 ghost use Rattle.grammar.proofs.Acceptor.{of_address, line as line_state, naming, want, nothing, same};
 ghost use Rattle.grammar.specs.Begins.{next_byte};
 ghost use Rattle.stack.specs.Items.{items};
@@ -134,6 +134,8 @@ impl Reader {
         requires ready { Ready self.old repeats.old }
         requires seen { Some Mark.Repeat ≡ first (rest self.old) }
         ensures ready { Ready self.new repeats.new }
+        ensures marks { self.new.marks ≡ self.old.marks }
+        ensures forth { length (rest self.new) ≤ length (rest self.old) }
         ensures less { OnOk result (length (rest self.new) < length (rest self.old)) }
         ensures starts { OnOk result (starts self.new ≡ starts self.old) }
         ensures says { LineTells self.old self.new 0 (items repeats.old) (items repeats.new) result }
@@ -153,6 +155,8 @@ impl Reader {
         requires ready { Ready self.old repeats.old }
         requires seen { Some Mark.End ≡ first (rest self.old) }
         ensures ready { Ready self.new repeats.new }
+        ensures marks { self.new.marks ≡ self.old.marks }
+        ensures forth { length (rest self.new) ≤ length (rest self.old) }
         ensures less { OnOk result (length (rest self.new) < length (rest self.old)) }
         ensures starts { OnOk result (starts self.new ≡ starts self.old) }
         ensures says { LineTells self.old self.new 0 (items repeats.old) (items repeats.new) result }
@@ -175,6 +179,8 @@ impl Reader {
         requires ready { Ready self.old repeats.old }
         requires seen { Some mark ≡ first (rest self.old) }
         ensures ready { Ready self.new repeats.new }
+        ensures marks { self.new.marks ≡ self.old.marks }
+        ensures forth { length (rest self.new) ≤ length (rest self.old) }
         ensures less { OnOk result (length (rest self.new) < length (rest self.old)) }
         ensures starts { OnOk result (starts self.new ≡ starts self.old) }
         ensures says { LineTells self.old self.new 0 (items repeats.old) (items repeats.new) result }
