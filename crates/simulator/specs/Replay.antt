@@ -48,7 +48,7 @@ respond v (Run n) s = answered (λ t. Ran t.0 t.1) (runs n s)
 respond v (Strike place value) s = answered Struck (strikes place value s)
 respond v (Look address) s = (Ok (Word (looks address s)), s)
 respond v (Probe place) s = (by_result Word (probes place s), s)
-respond v Show s = (Ok (Shown (shows s)), s)
+respond v Show s = (Ok (Shown (shows s).end (shows s).steps (shows s).stores), s)
 respond v Clear s = answered (λ _. Done) (clears s)
 
 -- the verdict is that of the check

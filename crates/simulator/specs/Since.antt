@@ -24,7 +24,7 @@ at_load ws cells l (Ok Done) = record { words = ws; cells = cells; strikes = 0; 
 at_load ws cells l (Ok (Ran n e)) = l
 at_load ws cells l (Ok (Struck b)) = l
 at_load ws cells l (Ok (Word v)) = l
-at_load ws cells l (Ok (Shown x)) = l
+at_load ws cells l (Ok (Shown e n c)) = l
 at_load ws cells l (Err e) = l
 
 -- an accepted run adds the steps that it answered
@@ -33,7 +33,7 @@ at_run l (Ok Done) = l
 at_run l (Ok (Ran n e)) = record { words = l.words; cells = l.cells; strikes = l.strikes; steps = l.steps + n }
 at_run l (Ok (Struck b)) = l
 at_run l (Ok (Word v)) = l
-at_run l (Ok (Shown x)) = l
+at_run l (Ok (Shown e n c)) = l
 at_run l (Err e) = l
 
 -- an accepted strike is one more
@@ -42,7 +42,7 @@ at_strike l (Ok Done) = l
 at_strike l (Ok (Ran n e)) = l
 at_strike l (Ok (Struck b)) = record { words = l.words; cells = l.cells; strikes = l.strikes + 1; steps = l.steps }
 at_strike l (Ok (Word v)) = l
-at_strike l (Ok (Shown x)) = l
+at_strike l (Ok (Shown e n c)) = l
 at_strike l (Err e) = l
 
 -- one call more, made of the simulator s

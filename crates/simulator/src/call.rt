@@ -1,9 +1,10 @@
 // The calls of a simulator as values, and what they answer.
 ghost use Rattle.std.specs.Prelude.{◌≡◌};
+ghost use Rattle.simulator.specs.declared.call.Reply.TheVariants.{Shown};
 ghost use Rattle.simulator.specs.declared.call.CallFault.TheVariants.{Unfit, Refused};
 
 use crate::refusal::Refusal;
-use crate::simulator::calls::Shown;
+use crate::simulator::calls;
 use checker::fault::CheckFault;
 use machine::ends::End;
 
@@ -30,7 +31,8 @@ pub enum Reply {
     Struck { bits: u32 },
     // A cell's word, or a latch's.
     Word { word: u32 },
-    Shown(Shown),
+    // What `show` answers, field by field: a struct behind the two tags would make every answer a quarter larger.
+    Shown { end: End, steps: u32, stores: u32 },
 }
 
 // Why a call was not made: nothing changed.
@@ -43,6 +45,18 @@ pub enum CallFault {
 
 // What a call answers.
 pub type Answer = Result<Reply, CallFault>;
+
+impl From<calls::Shown> for Reply {
+    ghost from_gives = { λ shown r. r ≡ Shown shown.end shown.steps shown.stores };
+
+    fn from(shown: calls::Shown) -> Reply {
+        Reply::Shown {
+            end: shown.end,
+            steps: shown.steps,
+            stores: shown.stores,
+        }
+    }
+}
 
 impl From<CheckFault> for CallFault {
     ghost from_gives = { λ fault e. e ≡ Unfit fault };

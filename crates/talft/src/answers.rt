@@ -23,12 +23,7 @@ fn print_reply(rt: &HostRuntime, reply: Reply) -> io::Result<()> {
         Reply::Ran { taken, end } => println!(rt; "ok {taken} {}", end.number()),
         Reply::Struck { bits } => println!(rt; "ok {bits}"),
         Reply::Word { word } => println!(rt; "ok {word}"),
-        Reply::Shown(shown) => println!(rt;
-            "ok {} {} {}",
-            shown.end.number(),
-            shown.steps,
-            shown.stores
-        ),
+        Reply::Shown { end, steps, stores } => println!(rt; "ok {} {steps} {stores}", end.number()),
     }
 }
 

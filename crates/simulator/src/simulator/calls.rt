@@ -81,9 +81,10 @@ impl<M: Memory> Simulator<M> {
     fn going(&self) -> Result<Run, Refusal>
         ensures { MatchResult result (λ x. (self.now.run ≡ Some x) × (going? x.end ≡ true)) (λ e. (e ≡ Refusal.NotUnderWay) × IfSome self.now.run (λ x. going? x.end ≡ false)) }
     {
-        self.run
-            .filter(|run| run.end.is_going())
-            .ok_or(Refusal::NotUnderWay)
+        match &self.run {
+            Some(run) if run.end.is_going() => Ok(*run),
+            _ => Err(Refusal::NotUnderWay),
+        }
     }
 
     // Steps until n are done or an end comes; answers the steps taken together with the end.

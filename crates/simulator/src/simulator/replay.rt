@@ -53,7 +53,7 @@ impl<M: Memory> Simulator<M> {
                 let word = self.probe(*place)?;
                 Ok(Reply::Word { word })
             }
-            Call::Show => Ok(Reply::Shown(self.show())),
+            Call::Show => Ok(Reply::from(self.show())),
             Call::Clear => {
                 self.clear()?;
                 Ok(Reply::Done)
