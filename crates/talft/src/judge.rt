@@ -52,6 +52,8 @@ impl Tools {
         let judged = self.translate(text, words.as_mut_slice());
         Ok(judged.map(|count| {
             words.truncate(count);
+            // A script keeps the words of each plan: they keep no more room than they fill.
+            words.shrink_to_fit();
             words
         }))
     }

@@ -1,5 +1,6 @@
 // Scripts: read whole, then made as one list of calls, then answered line by line.
 ghost use Rattle.std.specs.Prelude.{◌≡◌, [], ◌∷◌, ◌++◌, OnOk};
+ghost use Rattle.talft.specs.declared.calls.Entry.TheVariants.{Load};
 ghost use Rattle.talft.specs.Acts.{verdict};
 
 use crate::answers::print_answers;
@@ -17,7 +18,7 @@ use simulator::call::{Answer, Call};
 use simulator::simulator::Simulator;
 use std::alloc::{AllocError, Global};
 use std::str::from_utf8;
-use text::bytes::{first_word, said};
+use text::bytes::{first_line, first_word, said};
 use text::list::{ListFault, read_list};
 
 // Start and length of a window.
@@ -101,6 +102,13 @@ impl Script {
         self.add(entry)
     }
 
+    // Adds a load, of the words that passed last.
+    fn add_load(&mut self) -> Result<(), Failed>
+        ensures { OnOk result (self.new.entries.items ≡ self.old.entries.items ++ Load ∷ []) }
+    {
+        self.add_call(Entry::Load)
+    }
+
     fn take_cells(&mut self, rt: &HostRuntime, line: Line<'_>) -> Result<(), Failed> {
         if self.stage != Stage::Fresh {
             return Err(line.complain(rt, "cells stand first, and once"));
@@ -147,7 +155,9 @@ impl Script {
         let text = read_file(rt, By::Line(line.number), line.path(rt)?, MOST_BYTES)?;
         let words = text.module_words(rt)?;
         let judged = tools.check(words.as_slice());
-        self.add_module(judged.map(|()| words))
+        // The script keeps the words, so it keeps a copy with no more room than they fill.
+        let kept = words.as_slice().to_vec(rt.alloc())?;
+        self.add_module(judged.map(|()| kept))
     }
 
     fn take_line(
@@ -167,7 +177,7 @@ impl Script {
             }
             Command::Plan => self.take_plan(rt, tools, line)?,
             Command::Module => self.take_module(rt, tools, line)?,
-            Command::Load => self.add_call(Entry::Load)?,
+            Command::Load => self.add_load()?,
             _ => self.add_call(Entry::Call(command))?,
         }
         self.stage = self.stage.max(Stage::Begun);
@@ -175,15 +185,22 @@ impl Script {
     }
 }
 
-// Reads a script; no call is made yet. What stands behind its last newline is a line too, blank if nothing does.
+// Reads a script; no call is made yet.
 fn read_all(rt: &HostRuntime, tools: &mut Tools, text: &[u8]) -> Result<Script, Failed> {
     let mut script = Script::new(rt.alloc());
-    for (index, line) in text.split(|byte| *byte == b'\n').enumerate() {
+    let mut rest = text;
+    // Stays (3): no plainer: `split` of the library hands out lines too, but only `first_line` says which bytes are one.
+    for number in 1..usize::MAX {
+        if rest.is_empty() {
+            break;
+        }
+        let split = first_line(rest);
         let line = Line {
-            number: index.saturating_add(1),
-            said: said(line),
+            number,
+            said: said(split.part),
         };
         script.take_line(rt, tools, line)?;
+        rest = split.rest;
     }
     Ok(script)
 }
