@@ -103,6 +103,15 @@ pub record Goes (a b : Reader) : Type 0 where
   pub statements : b.plan.statements ≡ a.plan.statements
   pub own : b.plan.own ≡ a.plan.own
 
+-- what every line keeps, whether it ends well or not
+pub record Onward (a b : Reader) : Type 0 where
+  pub forth : length (rest b) ≤ length (rest a)
+  pub room : vec_len b.plan.nodes + length (rest b) ≤ vec_len a.plan.nodes + length (rest a)
+  pub lines : vec_len b.plan.statements + length (rest b) ≤ vec_len a.plan.statements + length (rest a)
+  pub longer : vec_len a.plan.statements ≤ vec_len b.plan.statements
+  pub dearer : spent a.plan ≤ spent b.plan
+  pub marks : b.marks ≡ a.marks
+
 -- no mark that leads to an expression was passed between the two
 abbrev pub Quiet : Reader → Reader → Type 0
 Quiet a b = begins (rest b) ≡ begins (rest a)

@@ -1,10 +1,10 @@
 // Reading the lines of a plan.
-ghost use Rattle.std.specs.Prelude.{◌≡◌, ◌<◌, ◌≤◌, [], length, IfOk, Some, OnOk};
+ghost use Rattle.std.specs.Prelude.{◌≡◌, ◌<◌, [], length, IfOk, Some, OnOk};
 ghost use Rattle.grammar.proofs.Acceptor.{of_address, line as line_state, naming, want, nothing, same};
 ghost use Rattle.grammar.specs.Begins.{next_byte};
 ghost use Rattle.stack.specs.Items.{items};
 ghost use Rattle.plan.specs.Lining.{Simple, LineEnds, Names, Begun, ExpressionSays, Laid, Placed, StatementSays, CountSays, starts, Ready, LineTells};
-ghost use Rattle.plan.specs.Reading.{rest, first, Goes, Quiet};
+ghost use Rattle.plan.specs.Reading.{rest, first, Goes, Quiet, Onward};
 
 use crate::fault::ReadFault;
 use crate::limits::REPEATS;
@@ -134,8 +134,7 @@ impl Reader {
         requires ready { Ready self.old repeats.old }
         requires seen { Some Mark.Repeat ≡ first (rest self.old) }
         ensures ready { Ready self.new repeats.new }
-        ensures marks { self.new.marks ≡ self.old.marks }
-        ensures forth { length (rest self.new) ≤ length (rest self.old) }
+        ensures onward { Onward self.old self.new }
         ensures less { OnOk result (length (rest self.new) < length (rest self.old)) }
         ensures starts { OnOk result (starts self.new ≡ starts self.old) }
         ensures says { LineTells self.old self.new 0 (items repeats.old) (items repeats.new) result }
@@ -155,8 +154,7 @@ impl Reader {
         requires ready { Ready self.old repeats.old }
         requires seen { Some Mark.End ≡ first (rest self.old) }
         ensures ready { Ready self.new repeats.new }
-        ensures marks { self.new.marks ≡ self.old.marks }
-        ensures forth { length (rest self.new) ≤ length (rest self.old) }
+        ensures onward { Onward self.old self.new }
         ensures less { OnOk result (length (rest self.new) < length (rest self.old)) }
         ensures starts { OnOk result (starts self.new ≡ starts self.old) }
         ensures says { LineTells self.old self.new 0 (items repeats.old) (items repeats.new) result }
@@ -179,8 +177,7 @@ impl Reader {
         requires ready { Ready self.old repeats.old }
         requires seen { Some mark ≡ first (rest self.old) }
         ensures ready { Ready self.new repeats.new }
-        ensures marks { self.new.marks ≡ self.old.marks }
-        ensures forth { length (rest self.new) ≤ length (rest self.old) }
+        ensures onward { Onward self.old self.new }
         ensures less { OnOk result (length (rest self.new) < length (rest self.old)) }
         ensures starts { OnOk result (starts self.new ≡ starts self.old) }
         ensures says { LineTells self.old self.new 0 (items repeats.old) (items repeats.new) result }

@@ -32,8 +32,14 @@ returns-in_ok-statement-in_default c =
     let z : Reader = record { marks = b.marks; at = b.at; plan = c.add_statement.new.self; node_room = omega (arith, b.node_room, ap vec_len w.nodes); statement_room = omega (arith, w.len, ap vec_len r.goes.statements, r.less, a.statement_room) } in
     record {
       ready = record { opened = opened_laid z.plan os r.goes w.nodes w.len (omega (arith, w.own)) c.requires.ready.opened; slots = c.requires.ready.slots };
-      marks = r.goes.marks;
-      forth = r.goes.forth;
+      onward = record {
+        forth = r.goes.forth;
+        room = omega (arith, r.goes.room, ap vec_len w.nodes);
+        lines = omega (arith, w.len, ap vec_len r.goes.statements, r.less);
+        longer = omega (arith, w.len, ap vec_len r.goes.statements);
+        dearer = omega (arith, r.goes.more, ap vec_len w.nodes, w.own, r.goes.own);
+        marks = r.goes.marks;
+      };
       less = r.less;
       starts = laid_starts a b z s r.goes.statements w.statements refl r.placed;
       says = λ K S. (add (doing (vec_items b.plan.nodes) s) K, laid_shows a b z s r.goes r.laid w.nodes w.statements w.own S, r.says (length os) K ∙ ask-same b _ 0 (length os) _ refl refl);
@@ -49,8 +55,14 @@ returns-in_err-statement-in_default c =
     let os = items c.args.repeats.now in
     record {
       ready = record { opened = opened-goes os r.goes c.requires.ready.opened; slots = c.requires.ready.slots };
-      marks = r.goes.marks;
-      forth = r.goes.forth;
+      onward = record {
+        forth = r.goes.forth;
+        room = r.goes.room;
+        lines = omega (arith, ap vec_len r.goes.statements, r.goes.forth);
+        longer = omega (arith, ap vec_len r.goes.statements);
+        dearer = omega (arith, r.goes.more, r.goes.own);
+        marks = r.goes.marks;
+      };
       less = IfOk-from_err x _ (by_err x _ h);
       starts = IfOk-from_err x _ (by_err x _ h);
       says = λ K S. told_err a _ _ os os K x f h (r.says (length os) K);
