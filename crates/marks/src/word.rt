@@ -49,7 +49,7 @@ fn appended(value: u32, digit: u8) -> Option<u32>
 
 // The number that digits are, if it is a word of 32 bits.
 // Stays (4): tried `parse` of the library: it reads text, so the digits were tested twice more, and a text of numbers
-// took 1.4 times as long to read.
+// took up to 1.4 times as long to read.
 fn number(digits: &[u8]) -> Option<u32>
     ensures { MatchOption result (4294967295 < value 0 digits.now) (λ n. (value 0 digits.now ≡ n) × (n ≤ 4294967295)) }
 {

@@ -154,10 +154,12 @@ impl Script {
     ) -> Result<(), Failed> {
         let text = read_file(rt, By::Line(line.number), line.path(rt)?, MOST_BYTES)?;
         let words = text.module_words(rt)?;
-        let judged = tools.check(words.as_slice());
-        // The script keeps the words, so it keeps a copy with no more room than they fill.
-        let kept = words.as_slice().to_vec(rt.alloc())?;
-        self.add_module(judged.map(|()| kept))
+        // The script keeps words that pass, so it keeps a copy with no more room than they fill.
+        let judged = match tools.check(words.as_slice()) {
+            Ok(()) => Ok(words.as_slice().to_vec(rt.alloc())?),
+            Err(fault) => Err(fault),
+        };
+        self.add_module(judged)
     }
 
     fn take_line(
