@@ -154,12 +154,11 @@ impl Script {
     ) -> Result<(), Failed> {
         let text = read_file(rt, By::Line(line.number), line.path(rt)?, MOST_BYTES)?;
         let words = text.module_words(rt)?;
-        // The script keeps words that pass, so it keeps a copy with no more room than they fill.
-        let judged = match tools.check(words.as_slice()) {
-            Ok(()) => Ok(words.as_slice().to_vec(rt.alloc())?),
-            Err(fault) => Err(fault),
-        };
-        self.add_module(judged)
+        match tools.check(words.as_slice()) {
+            // The script keeps a copy, which has no more room than the words fill.
+            Ok(()) => self.add_module(Ok(words.as_slice().to_vec(rt.alloc())?)),
+            Err(fault) => self.add_module(Err(fault)),
+        }
     }
 
     fn take_line(
